@@ -1,0 +1,5 @@
+pub mod Framing
+pub mod Packet
+pub mod Records
+pub mod Taking
+pub mod Playing

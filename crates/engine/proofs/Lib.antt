@@ -1,0 +1,5 @@
+pub mod Adding
+pub mod Copies
+pub mod Decided
+pub mod Parts
+pub mod Recorded

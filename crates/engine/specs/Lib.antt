@@ -1,0 +1,4 @@
+pub mod Calls
+pub mod Changes
+pub mod Host
+pub mod Meaning

@@ -1,0 +1,2 @@
+pub mod Adjusts
+pub mod Searches

@@ -1,0 +1,9 @@
+pub mod Faults
+pub mod Loading
+pub mod Phases
+pub mod Reasons
+pub mod Register
+pub mod Table
+pub mod Tables
+pub mod Tests
+pub mod Ticks

@@ -1,0 +1,8 @@
+// The rules of the day: its phases, what is loaded, how an order is judged, and why a call is refused.
+pub mod fault;
+pub mod keys;
+pub mod loading;
+pub mod phase;
+pub mod register;
+pub mod table;
+pub mod tables;
