@@ -1,5 +1,7 @@
 // The host as a program: a day file on standard input, Soup packets on standard output.
 ghost use mathlib.Core.Path.{_≡_};
+ghost use mathlib.Core.List.{[]};
+ghost use Prim.Native.Nat.{min};
 ghost use Rattle.std.specs.Results.{Cases};
 ghost use Rattle.std.specs.Vec.{made};
 ghost use Rattle.std.specs.Of.Vec.{vec-items};
@@ -27,6 +29,7 @@ use std::io::BufWriter;
 use std::io::ErrorKind;
 use std::io::Read;
 use std::io::Write;
+use store::record::NO_RECORD;
 use store::row::Row;
 use store::row::RowRecords;
 use store::row::RowStore;
@@ -77,13 +80,20 @@ fn run(rt: &LibcRuntime) -> Result<Ending, AnyError> {
 fn new_host(heap: Global) -> Result<Host, AnyError>
     ensures { λ r. ⌜ Cases r (λ h. model (λ s. vec-items (s .records)) (λ s. s .capacity) soupMeaning h ≡ engineMade 256 (fresh 300 0) (fresh 550 0) 1 1) (λ _. Unit {0}) ⌝ }
 {
-    let store = Row::with_capacity(heap, ORDERS)?;
+    let store = new_row(heap, ORDERS)?;
     let feed = new_line(heap, FEED_BYTES)?;
     let replies = new_line(heap, REPLY_BYTES)?;
     if check_parts(&store, &feed, &replies, FIRST_NUMBER, FIRST_NUMBER).is_err() {
         return Err("the engine's parts do not fit".into());
     }
     Ok(Engine::new(store, feed, replies, FIRST_NUMBER, FIRST_NUMBER))
+}
+
+// An empty row for so many orders.
+fn new_row(heap: Global, orders: usize) -> Result<Row, AllocError>
+    ensures { λ r. ⌜ made r (λ s. (vec-items (s .records) ≡ []) × (s .capacity ≡ min orders 4096)) ⌝ }
+{
+    Ok(Row::over(vec![in heap; NO_RECORD; orders]?))
 }
 
 // A line with nothing waiting and nothing gone, over a buffer of so many bytes.

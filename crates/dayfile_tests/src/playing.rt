@@ -6,6 +6,7 @@ use line::soup::Soup;
 use line::soup::calls::SoupLine;
 use rules::fault::FileFault;
 use std::test::*;
+use store::record::NO_RECORD;
 use store::row::Row;
 use store::row::RowRecords;
 use store::row::RowStore;
@@ -41,7 +42,7 @@ const TOLD: [u8; 21] = [
 #[test]
 fn a_day_with_nothing_loaded(rt: LibcRuntime) -> Result<(), Fail> {
     let heap = rt.alloc();
-    let store = Row::with_capacity(heap, 1)?;
+    let store = Row::over(vec![in heap; NO_RECORD; 1]?);
     let feed = Soup::new(vec![in heap; 0u8; 166]?, 0);
     let replies = Soup::new(vec![in heap; 0u8; 83]?, 0);
     check(check_parts(&store, &feed, &replies, 1, 1).is_ok())?;

@@ -5,23 +5,11 @@ ghost use Rattle.engine.specs.Changes.{changed, recordAt, lessened, keepsPlace
 ghost use Rattle.engine.specs.Meaning.{model};
 use crate::change::Change;
 use crate::engine::Engine;
-use fields::letters::Side;
 use line::line::Line;
+use store::record::NO_RECORD;
 use store::record::Record;
 use store::store::Records;
 use store::store::Store;
-
-// What stands in for an order past the end of the list.
-const NO_RECORD: Record = Record {
-    number: 0,
-    account: 0,
-    token: 0,
-    side: Side::Buy,
-    book: 0,
-    rate: 0,
-    left: 0,
-    executed: 0,
-};
 
 impl<S: Store, L: Line> Engine<S, L> {
     // Makes a change.
