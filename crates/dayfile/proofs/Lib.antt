@@ -1,5 +1,5 @@
 pub mod Figures
 pub mod Framing
-pub mod Kept
+pub mod Steps
 pub mod Writing
 pub mod Turns

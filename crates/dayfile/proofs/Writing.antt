@@ -33,24 +33,40 @@ tag-there tag.Row = refl
 tag-there tag.Book = refl
 tag-there tag.Account = refl
 tag-there tag.Begin = refl
+tag-there tag.Event = refl
+tag-there tag.State = refl
+tag-there tag.Reference = refl
+tag-there tag.Drop = refl
 
 command-there : (c : Command) → apply (kinds (tagFor c)) (commandOf (tagFor c)) (values c) ≡ c
 command-there (command.Row r) = refl
 command-there (command.Book l) = refl
 command-there (command.Account name) = refl
 command-there (command.Begin time) = refl
+command-there (command.Event time letter) = refl
+command-there (command.State time code letter) = refl
+command-there (command.Reference time code rate) = refl
+command-there (command.Drop time account) = refl
 
 value-length : (c : Command) → Fits (kinds (tagFor c)) (values c) → length (write (kinds (tagFor c)) (values c)) ≡ valueLength (tagFor c)
 value-length (command.Row r) h = simp (length-append, length-be)
 value-length (command.Book l) h = simp (length-append, length-be) (omega (arith, h .1 .0))
 value-length (command.Account name) h = simp length-append (omega (arith, h .0))
 value-length (command.Begin time) h = simp (length-append, length-be)
+value-length (command.Event time letter) h = simp (length-append, length-be)
+value-length (command.State time code letter) h = simp (length-append, length-be)
+value-length (command.Reference time code rate) h = simp (length-append, length-be)
+value-length (command.Drop time account) h = simp (length-append, length-be)
 
 short-value : (t : Tag) → valueLength t < 256 ^ 2
 short-value tag.Row = omega arith
 short-value tag.Book = omega arith
 short-value tag.Account = omega arith
 short-value tag.Begin = omega arith
+short-value tag.Event = omega arith
+short-value tag.State = omega arith
+short-value tag.Reference = omega arith
+short-value tag.Drop = omega arith
 
 abbrev laid : (t : Tag) → Row (kinds t) → List ℕ
 laid t r = tagByte t ∷ (be 2 (valueLength t) ++ write (kinds t) r)
@@ -60,6 +76,10 @@ bytes-of tag.Row r = refl
 bytes-of tag.Book r = refl
 bytes-of tag.Account r = refl
 bytes-of tag.Begin r = refl
+bytes-of tag.Event r = refl
+bytes-of tag.State r = refl
+bytes-of tag.Reference r = refl
+bytes-of tag.Drop r = refl
 
 -- ---- of any kind
 
@@ -130,6 +150,10 @@ records-sound = record {
   book-length = refl;
   account-length = refl;
   begin-length = refl;
+  event-length = refl;
+  state-length = refl;
+  reference-length = refl;
+  drop-length = refl;
   returns = returned;
   keeps = kept;
 }

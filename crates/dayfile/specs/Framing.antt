@@ -33,12 +33,20 @@ tagFor (command.Row r) = tag.Row
 tagFor (command.Book l) = tag.Book
 tagFor (command.Account name) = tag.Account
 tagFor (command.Begin time) = tag.Begin
+tagFor (command.Event time letter) = tag.Event
+tagFor (command.State time code letter) = tag.State
+tagFor (command.Reference time code rate) = tag.Reference
+tagFor (command.Drop time account) = tag.Drop
 
 abbrev pub values : (c : Command) → Row (kinds (tagFor c))
 values (command.Row r) = r .table & r .size & r .start & tt
 values (command.Book l) = l .code & l .isin & l .lot & l .table & l .upper & l .lower & l .state & l .reference & tt
 values (command.Account name) = name & tt
 values (command.Begin time) = time & tt
+values (command.Event time letter) = time & letter & tt
+values (command.State time code letter) = time & code & letter & tt
+values (command.Reference time code rate) = time & code & rate & tt
+values (command.Drop time account) = time & account & tt
 
 abbrev pub recordBytes : Command → List ℕ
 recordBytes c = tagByte (tagFor c) ∷ (be 2 (valueLength (tagFor c)) ++ write (kinds (tagFor c)) (values c))
@@ -49,5 +57,9 @@ pub record Records-sound : Type 0 where
   pub book-length : valueLength tag.Book ≡ 37
   pub account-length : valueLength tag.Account ≡ 12
   pub begin-length : valueLength tag.Begin ≡ 8
+  pub event-length : valueLength tag.Event ≡ 9
+  pub state-length : valueLength tag.State ≡ 13
+  pub reference-length : valueLength tag.Reference ≡ 16
+  pub drop-length : valueLength tag.Drop ≡ 9
   pub returns : (c : Command) → Fits (kinds (tagFor c)) (values c) → recordRead (recordBytes c) ≡ Ok c
   pub keeps : (b : List ℕ) (c : Command) → Under 256 b → recordRead b ≡ Ok c → recordBytes c ≡ take (wanted b) b

@@ -25,20 +25,34 @@ tagByte tag.Row = 1
 tagByte tag.Book = 2
 tagByte tag.Account = 3
 tagByte tag.Begin = 4
+tagByte tag.Event = 6
+tagByte tag.State = 7
+tagByte tag.Reference = 8
+tagByte tag.Drop = 10
 
 abbrev pub tags : List Tag
-tags = tag.Row ∷ tag.Book ∷ tag.Account ∷ tag.Begin ∷ []
+tags = tag.Row ∷ tag.Book ∷ tag.Account ∷ tag.Begin ∷ tag.Event ∷ tag.State ∷ tag.Reference ∷ tag.Drop ∷ []
 
 abbrev pub tagOf : ℕ → Option Tag
 tagOf = letterOf tagByte tags
 
--- a tick row: table, size, start; a book: code, ISIN, lot, tick table, upper and lower yield, state, reference yield;
--- an account: its name; begin: the time
+-- a tick row, 12 bytes: table, size, start
+-- a book, 37 bytes: code, ISIN, lot, tick table, upper and lower yield, state, reference yield
+-- an account, 12 bytes: its name
+-- begin, 8 bytes: the time
+-- an event, 9 bytes: time, letter
+-- a state, 13 bytes: time, code, letter
+-- a reference, 16 bytes: time, code, yield
+-- a drop, 9 bytes: time, the account's number
 abbrev pub kinds : Tag → List Kind
 kinds tag.Row = uint 4 ∷ uint 4 ∷ int ∷ []
 kinds tag.Book = uint 4 ∷ text 12 ∷ uint 4 ∷ uint 4 ∷ int ∷ int ∷ byte ∷ int ∷ []
 kinds tag.Account = text 12 ∷ []
 kinds tag.Begin = uint 8 ∷ []
+kinds tag.Event = uint 8 ∷ byte ∷ []
+kinds tag.State = uint 8 ∷ uint 4 ∷ byte ∷ []
+kinds tag.Reference = uint 8 ∷ uint 4 ∷ int ∷ []
+kinds tag.Drop = uint 8 ∷ byte ∷ []
 
 abbrev pub commandOf : (t : Tag) → From (kinds t) Command
 commandOf tag.Row = λ table size start. command.Row (record { table = table; size = size; start = start })
@@ -55,6 +69,10 @@ commandOf tag.Book = λ code isin lot table upper lower state reference.
     })
 commandOf tag.Account = command.Account
 commandOf tag.Begin = command.Begin
+commandOf tag.Event = command.Event
+commandOf tag.State = command.State
+commandOf tag.Reference = command.Reference
+commandOf tag.Drop = command.Drop
 
 -- how many bytes the value has
 abbrev pub valueLength : Tag → ℕ

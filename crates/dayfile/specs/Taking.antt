@@ -7,7 +7,7 @@ use Rattle.std.specs.declared.result.Result.{Result}
 use Rattle.std.specs.declared.result.Result.the-variants.{Ok, Err}
 use Rattle.rules.specs.declared.fault.FileFault.{FileFault}
 use Rattle.rules.specs.declared.fault.FileFault.the-variants.{Engine}
-use Rattle.engine.specs.Calls.{Outcome, loadRow, loadBook, loadAccount, begin}
+use Rattle.engine.specs.Calls.{Outcome, loadRow, loadBook, loadAccount, begin, event, state, reference, drop}
 use Rattle.engine.specs.Host.{Host}
 use Rattle.dayfile.specs.Records.{recordRead}
 use Rattle.dayfile.specs.declared.command.Command.{Command}
@@ -19,6 +19,10 @@ called h (command.Row r) = loadRow h r
 called h (command.Book b) = loadBook h b
 called h (command.Account name) = loadAccount h name
 called h (command.Begin time) = begin h time
+called h (command.Event time letter) = event h time letter
+called h (command.State time code letter) = state h time code letter
+called h (command.Reference time code rate) = reference h time code rate
+called h (command.Drop time account) = drop h time account
 
 pub record Filed : Type 0 where
   pub answer : Result (ℕ × ℕ) FileFault

@@ -21,6 +21,10 @@ pub enum Tag {
     Book,
     Account,
     Begin,
+    Event,
+    State,
+    Reference,
+    Drop,
 }
 
 // What a record asks of the host.
@@ -30,10 +34,18 @@ pub enum Command {
     Book(Listing),
     Account([u8; 12]),
     Begin(u64),
+    // a letter, at a time
+    Event(u64, u8),
+    // a book's state, as a letter, at a time
+    State(u64, u32, u8),
+    // a book's reference yield, at a time
+    Reference(u64, u32, i32),
+    // an account's number, at a time
+    Drop(u64, u8),
 }
 
 // The bytes of tag and length, before the value.
-pub const HEADER: usize = 3;
+const HEADER: usize = 3;
 
 impl Tag {
     // The tag that a byte is, where it is one.
@@ -45,6 +57,10 @@ impl Tag {
             2 => Some(Tag::Book),
             3 => Some(Tag::Account),
             4 => Some(Tag::Begin),
+            6 => Some(Tag::Event),
+            7 => Some(Tag::State),
+            8 => Some(Tag::Reference),
+            10 => Some(Tag::Drop),
             _ => None,
         }
     }
@@ -58,6 +74,10 @@ impl Tag {
             Tag::Book => 37,
             Tag::Account => 12,
             Tag::Begin => 8,
+            Tag::Event => 9,
+            Tag::State => 13,
+            Tag::Reference => 16,
+            Tag::Drop => 9,
         }
     }
 
@@ -98,6 +118,14 @@ impl Tag {
             }),
             Tag::Account => Command::Account(text_at::<12>(bytes, 3)),
             Tag::Begin => Command::Begin(u64_at(bytes, 3)),
+            Tag::Event => Command::Event(u64_at(bytes, 3), byte_at(bytes, 11)),
+            Tag::State => Command::State(u64_at(bytes, 3), u32_at(bytes, 11), byte_at(bytes, 15)),
+            Tag::Reference => Command::Reference(
+                u64_at(bytes, 3),
+                u32_at(bytes, 11),
+                i32_at(bytes, 15),
+            ),
+            Tag::Drop => Command::Drop(u64_at(bytes, 3), byte_at(bytes, 11)),
         }
     }
 }

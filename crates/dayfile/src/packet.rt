@@ -6,6 +6,7 @@ ghost use lib.ListN.{length};
 ghost use Rattle.std.specs.Written.{decimal};
 ghost use Rattle.fields.specs.Written.{written};
 ghost use Rattle.dayfile.specs.Packet.{layerName, faultText, plusPacket, faultPacket};
+use fields::field::Field;
 use fields::frame::Frame;
 use rules::fault::FileFault;
 use rules::fault::Layer;
@@ -53,7 +54,7 @@ fn plus_packet(text: &[u8]) -> Frame
     ensures { λ r. ⌜ written r ≡ plusPacket (now (text .entry)) ⌝ }
 {
     let mut packet = Frame::new();
-    packet.put_u16(1 + text.len() as u16);
+    packet.put(Field::U16(1 + text.len() as u16));
     packet.put_u8(b'+');
     packet.put_bytes(text);
     packet

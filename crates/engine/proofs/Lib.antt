@@ -3,3 +3,4 @@ pub mod Copies
 pub mod Decided
 pub mod Parts
 pub mod Recorded
+pub mod Sweeps

@@ -22,13 +22,15 @@ use Rattle.itch.specs.declared.feed.FeedMessage.{FeedMessage}
 use Rattle.itch.specs.declared.feed.FeedMessage.the-variants as tells
 use Rattle.itch.specs.declared.mark.Mark.the-variants.{Blank}
 use Rattle.line.specs.Meaning.{taken}
+use Rattle.ouch.specs.Reply.{addressed}
+use Rattle.ouch.specs.declared.reply.Reply.{Reply}
 use Rattle.store.specs.Records.{appended}
 use Rattle.store.specs.declared.record.Record.{Record}
 use Rattle.rules.specs.Phases.{step}
 use Rattle.rules.specs.Tables.{stateSet, referenceSet, suspended}
 use Rattle.rules.specs.Ticks.{eqZ}
 use Rattle.rules.specs.declared.tables.Book.{Book}
-use Rattle.engine.specs.Host.{Host, withOrders, withFeed, withPhase, withBooks}
+use Rattle.engine.specs.Host.{Host, withOrders, withFeed, withReplies, withPhase, withBooks}
 use Rattle.engine.specs.declared.change.Change.{Change}
 use Rattle.engine.specs.declared.change.Change.the-variants as change
 
@@ -139,6 +141,12 @@ published h t c = changed (fed h t (told (h .orders) (nanosOf t) c)) c
 abbrev pub publishedAll : Host → ℕ → List Change → Host
 publishedAll h t [] = h
 publishedAll h t (c ∷ cs) = publishedAll (published h t c) t cs
+
+-- ---- replies
+
+-- a reply to an account, behind a byte with the account's number
+abbrev pub replied : Host → ℕ → Reply → Host
+replied h account r = withReplies h (taken (h .replies) (addressed account r))
 
 -- ---- what the feed tells at the start of the day, and what a snapshot tells of it later
 

@@ -198,3 +198,7 @@ withAccounts h x = record {
   nextOrder = h .nextOrder;
   nextMatch = h .nextMatch;
 }
+
+-- how many orders are live
+abbrev pub live : Host → ℕ
+live h = length (h .orders)

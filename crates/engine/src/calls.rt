@@ -1,7 +1,7 @@
 // The calls, each as an equation with what it does to the host. A load has three kinds.
 ghost use mathlib.Core.Path.{_≡_};
 ghost use Rattle.engine.specs.Host.{Host};
-ghost use Rattle.engine.specs.Calls.{outcome, loadRow, loadBook, loadAccount, begin, collect};
+ghost use Rattle.engine.specs.Calls.{outcome, loadRow, loadBook, loadAccount, begin, drop, event, state, reference, collect};
 ghost use Rattle.engine.specs.Meaning.{model};
 use crate::engine::Engine;
 use line::line::Line;
@@ -25,6 +25,18 @@ pub trait Exchange {
     fn begin(&mut self, time: u64) -> Result<(u64, u64), Fault>
         ensures { λ r. ⌜ outcome r (host (now (self .exit))) ≡ begin (host (now (self .entry))) time ⌝ };
 
+    fn drop_account(&mut self, time: u64, account: u8) -> Result<(u64, u64), Fault>
+        ensures { λ r. ⌜ outcome r (host (now (self .exit))) ≡ drop (host (now (self .entry))) time account ⌝ };
+
+    fn event(&mut self, time: u64, letter: u8) -> Result<(u64, u64), Fault>
+        ensures { λ r. ⌜ outcome r (host (now (self .exit))) ≡ event (host (now (self .entry))) time letter ⌝ };
+
+    fn state(&mut self, time: u64, code: u32, letter: u8) -> Result<(u64, u64), Fault>
+        ensures { λ r. ⌜ outcome r (host (now (self .exit))) ≡ state (host (now (self .entry))) time code letter ⌝ };
+
+    fn reference(&mut self, time: u64, code: u32, rate: i32) -> Result<(u64, u64), Fault>
+        ensures { λ r. ⌜ outcome r (host (now (self .exit))) ≡ reference (host (now (self .entry))) time code rate ⌝ };
+
     fn collect(&mut self) -> Result<(u64, u64), Fault>
         ensures { λ r. ⌜ outcome r (host (now (self .exit))) ≡ collect (host (now (self .entry))) ⌝ };
 }
@@ -46,6 +58,22 @@ pub impl<S: Store, L: Line> Exchange for Engine<S, L> as EngineExchange {
 
     fn begin(&mut self, time: u64) -> Result<(u64, u64), Fault> {
         self.begin(time)
+    }
+
+    fn drop_account(&mut self, time: u64, account: u8) -> Result<(u64, u64), Fault> {
+        self.drop_account(time, account)
+    }
+
+    fn event(&mut self, time: u64, letter: u8) -> Result<(u64, u64), Fault> {
+        self.event(time, letter)
+    }
+
+    fn state(&mut self, time: u64, code: u32, letter: u8) -> Result<(u64, u64), Fault> {
+        self.state(time, code, letter)
+    }
+
+    fn reference(&mut self, time: u64, code: u32, rate: i32) -> Result<(u64, u64), Fault> {
+        self.reference(time, code, rate)
     }
 
     fn collect(&mut self) -> Result<(u64, u64), Fault> {

@@ -6,6 +6,7 @@ ghost use Rattle.engine.specs.Meaning.{model};
 use crate::engine::Engine;
 use crate::engine::GREATEST_NUMBER;
 use line::line::Line;
+use line::line::MOST_GONE;
 use line::refusal::Refusal;
 use rules::fault::Fault;
 use store::store::Store;

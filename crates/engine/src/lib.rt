@@ -1,13 +1,21 @@
 // The engine: what it holds, what changes it, and its calls.
 mod announcement;
 pub mod begin;
+mod books;
 pub mod calls;
 pub mod change;
 pub mod collect;
 mod count;
+pub mod drop;
 pub mod engine;
+pub mod event;
 pub mod loading;
 pub mod make;
 pub mod output;
+mod places;
 mod publish;
+pub mod reference;
+mod replies;
+pub mod state;
 mod time;
+mod withdraw;

@@ -1,7 +1,10 @@
 // The one way to a change that members can see: the feed tells it, and it is made.
 ghost use mathlib.Core.Path.{_≡_};
 ghost use Prim.Native.Nat.{_<_};
+ghost use Rattle.itch.specs.Feed.{feedBytes};
+ghost use Rattle.line.specs.Meaning.{taken};
 ghost use Rattle.engine.specs.Changes.{fed, timed, published, publishedAll};
+ghost use Rattle.engine.specs.Host.{withFeed};
 ghost use Rattle.engine.specs.Meaning.{model};
 use crate::change::Change;
 use crate::engine::Engine;
@@ -42,8 +45,7 @@ impl<S: Store, L: Line> Engine<S, L> {
         ensures { λ _. ⌜ model (S·Records .list) (S·Records .room) (L·Line .meaning) (now (self .exit)) ≡ fed (model (S·Records .list) (S·Records .room) (L·Line .meaning) (now (self .entry))) time message ⌝ }
     {
         self.tell_second(time);
-        let frame = message.encode();
-        let _ = self.feed.take(frame.bytes());
+        self.send(message);
     }
 
     // The second of a time, unless the feed told it last.
@@ -53,12 +55,18 @@ impl<S: Store, L: Line> Engine<S, L> {
     {
         let second = second_of(time);
         if self.second != Some(second) {
-            let message = FeedMessage::Seconds(Seconds {
+            self.send(FeedMessage::Seconds(Seconds {
                 seconds: second as u32,
-            });
-            let frame = message.encode();
-            let _ = self.feed.take(frame.bytes());
+            }));
             self.second = Some(second);
         }
+    }
+
+    // The bytes of a message onto the feed's line.
+    fn send(&mut self, message: FeedMessage)
+        ensures { λ _. ⌜ model (S·Records .list) (S·Records .room) (L·Line .meaning) (now (self .exit)) ≡ withFeed (model (S·Records .list) (S·Records .room) (L·Line .meaning) (now (self .entry))) (taken (L·Line .meaning (now (self .entry) .feed)) (feedBytes message)) (now (self .entry) .second) ⌝ }
+    {
+        let frame = message.encode();
+        let _ = self.feed.take(frame.bytes());
     }
 }

@@ -1,2 +1,4 @@
 pub mod Adjusts
+pub mod Highest
 pub mod Searches
+pub mod Tokens

@@ -1,6 +1,5 @@
 // Why a call is refused. A message's fault stands inside the engine's, and the engine's inside the file's.
 ghost use mathlib.Core.Path.{_≡_};
-ghost use Rattle.line.specs.Meaning.{number as lineNumber};
 ghost use Rattle.rules.specs.Faults.{number, fileNumber, engineLayer, layerOf, placeOf};
 ghost use Rattle.rules.specs.declared.fault.Fault.the-variants.{Message as inEngine};
 ghost use Rattle.rules.specs.declared.fault.FileFault.the-variants.{Engine as inFile};
@@ -86,7 +85,7 @@ impl Fault {
             Fault::FeedPlaces => 13,
             Fault::ReplyPlaces => 14,
             Fault::Load => 15,
-            Fault::Line(refusal) => line_number(refusal),
+            Fault::Line(refusal) => refusal.number(),
         }
     }
 
@@ -97,18 +96,6 @@ impl Fault {
             Fault::Message(_) => Layer::Message,
             _ => Layer::Engine,
         }
-    }
-}
-
-fn line_number(refusal: Refusal) -> u8
-    ensures { λ r. ⌜ r ≡ lineNumber refusal ⌝ }
-{
-    match refusal {
-        Refusal::Parts => 16,
-        Refusal::BadLength => 17,
-        Refusal::Full => 18,
-        Refusal::TooManyGone => 19,
-        Refusal::NoMessage => 20,
     }
 }
 

@@ -3,6 +3,8 @@ pub mod fault;
 pub mod keys;
 pub mod loading;
 pub mod phase;
+pub mod reasons;
 pub mod register;
 pub mod table;
 pub mod tables;
+pub mod ticks;

@@ -1,6 +1,7 @@
 // A table of at most N records in load order: the front of an array, as far as it is filled.
 ghost use Prim.Native.Nat.{_≤_};
 
+mod accounts;
 mod calls;
 
 #[derive(Drop)]

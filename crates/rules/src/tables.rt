@@ -2,7 +2,7 @@
 ghost use mathlib.Core.Path.{_≡_};
 ghost use Rattle.rules.specs.Register.{adjusted};
 ghost use Rattle.rules.specs.Table.{filled};
-ghost use Rattle.rules.specs.Tables.{accountAt, isBook, changedBy, stateSet, referenceSet};
+ghost use Rattle.rules.specs.Tables.{accountAt, isBook, suspended, changedBy, stateSet, referenceSet};
 use crate::table::Table;
 use fields::letters::BookState;
 
@@ -46,6 +46,9 @@ pub struct Account {
     pub name: [u8; 12],
     pub last: u32,
 }
+
+// The group of every book.
+pub const GROUP: [u8; 4] = *b"DJGB";
 
 // How many tick rows, books and accounts a day can have.
 pub const MOST_ROWS: usize = 16;
@@ -94,6 +97,12 @@ enum BookChange {
 }
 
 impl Book {
+    pub fn is_suspended(self) -> bool
+        ensures { λ r. ⌜ r ≡ suspended self ⌝ }
+    {
+        matches!(self.state, BookState::Suspended)
+    }
+
     fn changed(self, change: BookChange) -> Book
         ensures { λ r. ⌜ r ≡ changedBy change self ⌝ }
     {

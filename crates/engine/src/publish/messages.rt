@@ -18,12 +18,10 @@ use itch::messages::TickSize;
 use itch::messages::TradingState;
 use line::line::Line;
 use rules::tables::Book;
+use rules::tables::GROUP;
 use rules::tables::TickRow;
 use store::record::Record;
 use store::store::Store;
-
-// The group of the bond market.
-const GROUP: [u8; 4] = *b"DJGB";
 
 // The group of an event that concerns the whole system.
 const WHOLE_SYSTEM: [u8; 4] = *b"    ";

@@ -21,3 +21,17 @@ returns-in-Account c = rw (c .in-Account .is) (cc)
 
 pub returns-in-Begin : need.returns-in-Begin
 returns-in-Begin c = rw (c .in-Begin .is) (cc)
+
+pub returns-in-Event : need.returns-in-Event
+returns-in-Event c = rw (c .in-Event .is) (cc)
+
+pub returns-in-State : need.returns-in-State
+returns-in-State c = rw (c .in-State .is) (cc)
+
+pub returns-in-Reference : need.returns-in-Reference
+returns-in-Reference c =
+    let p : toZ w32 (ofZ w32 (c .i32-at-in-Reference .result)) ≡ c .i32-at-in-Reference .result = search needs in
+    rw (c .in-Reference .is) (cc)
+
+pub returns-in-Drop : need.returns-in-Drop
+returns-in-Drop c = rw (c .in-Drop .is) (cc)

@@ -1,0 +1,9 @@
+pub mod Cuts
+pub mod HexRead
+pub mod Joins
+pub mod Once
+pub mod OneLine
+pub mod Padding
+pub mod Places
+pub mod Spells
+pub mod TextTells

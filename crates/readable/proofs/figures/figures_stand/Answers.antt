@@ -1,0 +1,5 @@
+use Rattle.readable.proofs.Places.{figures-stand}
+use Rattle.readable.proofs.figures.figures_stand.Needs as need
+
+pub returns : need.returns
+returns c = figures-stand

@@ -1,0 +1,10 @@
+pub mod Figures
+pub mod Hex
+pub mod Lines
+pub mod PacketLines
+pub mod Packets
+pub mod Rates
+pub mod Spelling
+pub mod Streams
+pub mod Times
+pub mod Words
