@@ -1,5 +1,5 @@
 -- How many bytes a message has, and that each value that is read has a place in its field.
-use mathlib.Core.Path.{_≡_, refl, subst}
+use mathlib.Core.Path.{_≡_, refl, sym, ap, subst, _∙_}
 use mathlib.Core.Bool.{Bool, true, false, cond}
 use mathlib.Core.List.{List, [], _∷_}
 use Prim.Native.Nat.{ℕ, _+_, _^_, _<_}
@@ -12,7 +12,7 @@ use Rattle.std.specs.declared.option.Option.the-variants.{Some, None}
 use Rattle.std.specs.shelf.Digits.{number, Under}
 use Rattle.std.proofs.shelf.Digits.{number-lt}
 use Rattle.std.proofs.shelf.Elements.{all-take, all-drop}
-use Rattle.std.proofs.shelf.Tests.{eqb-true}
+use Rattle.std.proofs.shelf.Tests.{eqb-true, eq-eqb}
 use Rattle.fields.specs.Layout.{Kind, byte, uint, int, text, size, get, Fit, Row, sizes, readAt, Fits, apply, Format, Fitting, encode, decode, Sound}
 
 passed : {M : Type 0} (t : Bool) (o : Option M) (m : M) → cond t o None ≡ Some m → (t ≡ true) × (o ≡ Some m)
@@ -47,3 +47,10 @@ fits-decoded f back b m u e =
     let q = passed (eqb (getD b 0 0) (f .letter)) (apply (f .fields) (f .made) (readAt (f .fields) 1 b)) m (p .1) in
     let l : length b ≡ 1 + sizes (f .fields) = eqb-true (length b) (1 + sizes (f .fields)) (p .0) in
     rw (back (readAt (f .fields) 1 b) m (q .1)) (fits-read (f .fields) b 1 (omega arith) u)
+
+-- the message of the values that are read, where length and letter are right
+pub decoded : {M : Type 0} (f : Format M) (b : List ℕ) (r : Row (f .fields)) (m : M) → length b ≡ 1 + sizes (f .fields)
+    → getD b 0 0 ≡ f .letter → r ≡ readAt (f .fields) 1 b → apply (f .fields) (f .made) r ≡ Some m → Some m ≡ decode f b
+decoded f b r m l a e h =
+    rw (eq-eqb (length b) (1 + sizes (f .fields)) l, eq-eqb (getD b 0 0) (f .letter) a)
+    (sym h ∙ ap (apply (f .fields) (f .made)) e)

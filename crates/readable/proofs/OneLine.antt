@@ -21,15 +21,28 @@ use Rattle.itch.specs.declared.feed.FeedMessage.{FeedMessage}
 use Rattle.itch.specs.declared.feed.FeedMessage.the-variants as message
 use Rattle.itch.specs.declared.mark.Mark.{Mark}
 use Rattle.itch.specs.declared.mark.Mark.the-variants as mark
+use Rattle.ouch.specs.declared.letters.DayEvent.{DayEvent}
+use Rattle.ouch.specs.declared.letters.DayEvent.the-variants as dayEvent
+use Rattle.ouch.specs.declared.letters.OrderState.{OrderState}
+use Rattle.ouch.specs.declared.letters.OrderState.the-variants as orderState
+use Rattle.ouch.specs.declared.letters.Liquidity.{Liquidity}
+use Rattle.ouch.specs.declared.letters.Liquidity.the-variants as liquidity
+use Rattle.ouch.specs.declared.letters.CancelReason.{CancelReason}
+use Rattle.ouch.specs.declared.letters.CancelReason.the-variants as cancel
+use Rattle.ouch.specs.declared.letters.RejectReason.{RejectReason}
+use Rattle.ouch.specs.declared.letters.RejectReason.the-variants as reject
+use Rattle.ouch.specs.declared.reply.Reply.{Reply}
+use Rattle.ouch.specs.declared.reply.Reply.the-variants as told
 use Rattle.readable.specs.declared.bytes.Form.{Form}
 use Rattle.readable.specs.declared.bytes.Form.the-variants.{Text, Hex, HexWord}
 use Rattle.readable.specs.Hex.{hexDigit, hexByte}
 use Rattle.readable.specs.PacketLines.{oneLine, feedLine, One-line}
-use Rattle.readable.specs.Packets.{feed, fault, unknown}
+use Rattle.readable.specs.ReplyLines.{replyLine}
+use Rattle.readable.specs.Packets.{feed, reply, fault, unknown}
 use Rattle.readable.specs.Rates.{percent}
 use Rattle.readable.specs.Spelling.{printable, spelt, spelling}
 use Rattle.readable.specs.Times.{secondText}
-use Rattle.readable.specs.Words.{sideWord, eventWord, stateWord}
+use Rattle.readable.specs.Words.{sideWord, eventWord, stateWord, dayEventWord, orderStateWord, liquidityWord, cancelWord, rejectWord}
 use Rattle.readable.proofs.HexRead.{digit-seen}
 
 one-append : (xs ys : List ℕ) → oneLine (xs ++ ys) ≡ (oneLine xs && oneLine ys)
@@ -94,6 +107,42 @@ state-one : (s : BookState) → oneLine (stateWord s) ≡ true
 state-one state.Trading = refl
 state-one state.Suspended = refl
 
+dayEvent-one : (k : DayEvent) → oneLine (dayEventWord k) ≡ true
+dayEvent-one dayEvent.StartOfDay = refl
+dayEvent-one dayEvent.EndOfDay = refl
+
+orderState-one : (k : OrderState) → oneLine (orderStateWord k) ≡ true
+orderState-one orderState.Live = refl
+orderState-one orderState.Dead = refl
+
+liquidity-one : (k : Liquidity) → oneLine (liquidityWord k) ≡ true
+liquidity-one liquidity.Added = refl
+liquidity-one liquidity.Removed = refl
+
+cancel-one : (k : CancelReason) → oneLine (cancelWord k) ≡ true
+cancel-one cancel.User = refl
+cancel-one cancel.LoggedOff = refl
+cancel-one cancel.Immediate = refl
+cancel-one cancel.NotNow = refl
+cancel-one cancel.OrderType = refl
+cancel-one cancel.Display = refl
+cancel-one cancel.Price = refl
+cancel-one cancel.Quantity = refl
+cancel-one cancel.Minimum = refl
+
+reject-one : (k : RejectReason) → oneLine (rejectWord k) ≡ true
+reject-one reject.NotNow = refl
+reject-one reject.Book = refl
+reject-one reject.Halted = refl
+reject-one reject.Firm = refl
+reject-one reject.Other = refl
+reject-one reject.Margin = refl
+reject-one reject.OrderType = refl
+reject-one reject.Display = refl
+reject-one reject.Price = refl
+reject-one reject.Quantity = refl
+reject-one reject.Minimum = refl
+
 feed-one : (s : Option ℕ) (m : FeedMessage) → oneLine (feedLine s m) ≡ true
 feed-one s (message.Seconds m) = simp (one-append, decimal-one)
 feed-one s (message.Event m) = simp (one-append, decimal-one, second-one, spelling-one, event-one)
@@ -106,7 +155,18 @@ feed-one s (message.Deleted m) = simp (one-append, decimal-one, second-one)
 feed-one s (message.Replaced m) = simp (one-append, decimal-one, second-one, percent-one)
 feed-one s (message.EndOfSnapshot m) = simp (one-append, decimal-one, second-one)
 
+reply-one : (m : Reply) → oneLine (replyLine m) ≡ true
+reply-one (told.SystemEvent m) = simp (one-append, decimal-one, dayEvent-one)
+reply-one (told.Accepted m) =
+    simp (one-append, decimal-one, spelling-one, percent-one, side-one, orderState-one)
+reply-one (told.Replaced m) =
+    simp (one-append, decimal-one, spelling-one, percent-one, side-one, orderState-one)
+reply-one (told.Canceled m) = simp (one-append, decimal-one, cancel-one)
+reply-one (told.Executed m) = simp (one-append, decimal-one, spelling-one, percent-one, liquidity-one)
+reply-one (told.Rejected m) = simp (one-append, decimal-one, reject-one)
+
 pub one-line : One-line
 one-line s (feed m) = feed-one s m
+one-line s (reply account m) = simp (one-append, decimal-one, reply-one)
 one-line s (fault t) = spelling-one Text t
 one-line s (unknown p) = simp (one-append, spelling-one)

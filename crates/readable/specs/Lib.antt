@@ -4,6 +4,7 @@ pub mod Lines
 pub mod PacketLines
 pub mod Packets
 pub mod Rates
+pub mod ReplyLines
 pub mod Spelling
 pub mod Streams
 pub mod Times

@@ -6,6 +6,7 @@ use Prim.Native.Nat.{ℕ}
 use lib.Chars.{codes}
 use lib.Dec.{eqb, leb}
 use lib.ListN.{take, drop}
+use Rattle.std.specs.Written.{decimal}
 use Rattle.std.specs.declared.option.Option.{Option}
 use Rattle.std.specs.shelf.Digits.{Under}
 use Rattle.std.specs.shelf.Lists.{kept-by}
@@ -13,8 +14,9 @@ use Rattle.itch.specs.declared.feed.FeedMessage.{FeedMessage}
 use Rattle.itch.specs.declared.feed.FeedMessage.the-variants as message
 use Rattle.readable.specs.declared.bytes.Form.the-variants.{Text, Hex, HexWord}
 use Rattle.readable.specs.Hex.{paired}
-use Rattle.readable.specs.Lines.{secondsLine, eventLine, tickLine, directoryLine, stateLine, addedLine, executedLine, deletedLine, replacedLine, endLine}
-use Rattle.readable.specs.Packets.{Carried, feed, fault, unknown}
+use Rattle.readable.specs.Lines.{words, named, secondsLine, eventLine, tickLine, directoryLine, stateLine, addedLine, executedLine, deletedLine, replacedLine, endLine}
+use Rattle.readable.specs.Packets.{Carried, feed, reply, fault, unknown}
+use Rattle.readable.specs.ReplyLines.{replyLine}
 use Rattle.readable.specs.Spelling.{spelling}
 
 abbrev pub feedLine : Option ℕ → FeedMessage → List ℕ
@@ -35,6 +37,7 @@ unknownLine p = codes "? " ++ (spelling Hex (take 2 p) ++ spelling HexWord (drop
 
 abbrev pub packetLine : Option ℕ → Carried → List ℕ
 packetLine s (feed m) = feedLine s m
+packetLine s (reply account m) = words (named "account" (decimal account) ∷ replyLine m ∷ [])
 packetLine s (fault t) = codes "+ " ++ spelling Text t
 packetLine s (unknown p) = unknownLine p
 

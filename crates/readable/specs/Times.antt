@@ -28,3 +28,7 @@ secondText (Some s) = clockText (timeOfDay s)
 -- hh:mm:ss.nnnnnnnnn
 abbrev pub momentText : Option ℕ → ℕ → List ℕ
 momentText s nanos = secondText s ++ (codes "." ++ nine nanos)
+
+-- the same of a whole time, in nanoseconds past midnight
+abbrev pub timeText : ℕ → List ℕ
+timeText time = momentText (Some (time / 1000000000)) (time % 1000000000)

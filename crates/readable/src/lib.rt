@@ -6,6 +6,7 @@ pub mod line;
 pub mod messages;
 pub mod packet;
 mod rate;
+mod replies;
 pub mod stream;
 pub mod time;
 mod words;

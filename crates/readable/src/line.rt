@@ -18,6 +18,8 @@ use crate::messages::StateDisplay;
 use crate::messages::TickDisplay;
 use crate::packet::LENGTH_BYTES;
 use crate::packet::Packet;
+use crate::replies::ReplyDisplay;
+use crate::replies::Told;
 use crate::time::Second;
 use itch::feed::FeedMessage;
 use std::fmt;
@@ -77,6 +79,7 @@ pub impl fmt::Display for Line<'_> as LineDisplay {
         let second = self.second;
         match self.packet {
             Packet::Feed(message) => write!(f, "{}", At { second, message }),
+            Packet::Reply(account, reply) => write!(f, "account={account} {}", Told(reply)),
             Packet::Fault(bytes) => {
                 let form = Form::Text;
                 write!(f, "+ {}", Bytes { form, bytes })

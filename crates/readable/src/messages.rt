@@ -28,12 +28,12 @@ use std::fmt;
 
 // The book that a message speaks of.
 #[derive(Clone, Copy)]
-struct Book<'a> {
-    code: u32,
-    group: Text<'a>,
+pub struct Book<'a> {
+    pub code: u32,
+    pub group: Text<'a>,
 }
 
-impl fmt::Display for Book<'_> as BookDisplay {
+pub impl fmt::Display for Book<'_> as BookDisplay {
     ghost shown = { λ b. Some (bookText (b .code) (b .group .0 .now)) };
 
     fn fmt<W: fmt::Write>(&self, f: &mut fmt::Formatter<W>) -> fmt::Result {

@@ -2,9 +2,11 @@
 ghost use mathlib.Core.Path.{_≡_};
 ghost use Prim.Native.Nat.{_≤_};
 ghost use lib.ListN.{length};
-ghost use Rattle.readable.specs.Packets.{carried, packetOf, messageOf, secondAfter, payload, Packets-tell};
+ghost use Rattle.ouch.specs.Reply.{addressedRead};
+ghost use Rattle.readable.specs.Packets.{carried, packetOf, messageOf, replyOr, secondAfter, payload, Packets-tell};
 use crate::time::Second;
 use itch::feed::FeedMessage;
+use ouch::reply::Reply;
 
 // A packet begins with its length, which does not count itself.
 pub(crate) const LENGTH_BYTES: usize = 2;
@@ -17,10 +19,14 @@ const MESSAGE_LETTER: u8 = b'S';
 
 const FAULT_LETTER: u8 = b'+';
 
-// An unknown packet is kept whole.
+// Accounts are numbered from 0 to below this.
+const ACCOUNTS: u8 = 16;
+
+// A reply comes with its account's number; an unknown packet is kept whole.
 #[derive(Clone, Copy)]
 pub enum Packet<'a> {
     Feed(FeedMessage),
+    Reply(u8, Reply),
     Fault(&'a [u8]),
     Unknown(&'a [u8]),
 }
@@ -48,14 +54,25 @@ impl<'a> Packet<'a> {
         }
     }
 
-    // The message in a packet with the letter of messages, where there is one.
+    // The message of the feed in a packet with the letter of messages, or else the reply.
     fn message(bytes: &'a [u8]) -> Packet<'a>
         requires { ⌜ 3 ≤ length (now bytes) ⌝ }
         ensures { λ r. ⌜ carried r ≡ messageOf (now (bytes .entry)) ⌝ }
     {
         match FeedMessage::decode(payload(bytes)) {
             Some(m) => Packet::Feed(m),
-            None => Packet::Unknown(bytes),
+            None => Packet::reply(bytes),
+        }
+    }
+
+    // The reply to one of the accounts, where there is one.
+    fn reply(bytes: &'a [u8]) -> Packet<'a>
+        requires { ⌜ 3 ≤ length (now bytes) ⌝ }
+        ensures { λ r. ⌜ carried r ≡ replyOr (addressedRead (payload (now (bytes .entry)))) (now (bytes .entry)) ⌝ }
+    {
+        match Reply::decode_addressed(payload(bytes)) {
+            Some((account, reply)) if account < ACCOUNTS => Packet::Reply(account, reply),
+            _ => Packet::Unknown(bytes),
         }
     }
 
@@ -70,7 +87,7 @@ impl<'a> Packet<'a> {
     }
 }
 
-// A packet with the bytes of a message is read as the message, and one with a fault as its text.
+// A packet with the bytes of a message or a reply is read as it, and one with a fault as its text.
 pub fn packets_stand() -> u8
     ensures { λ _. ⌜ Packets-tell ⌝ }
 {

@@ -1,16 +1,21 @@
-// The time of a message: the second of the day that the last seconds message told, and the nanoseconds since then.
+// The time of a message: of the feed's, the second of the day that the last seconds message told, and the nanoseconds since
+// then; of a reply, whole.
 ghost use mathlib.Core.Path.{_≡_};
+ghost use Prim.Native.Nat.{_^_, _<_};
 ghost use Rattle.std.specs.declared.option.Option.the-variants.{Some};
-ghost use Rattle.readable.specs.Times.{timeOfDay, Tells, clockText, secondText, momentText};
+ghost use Rattle.readable.specs.Times.{timeOfDay, Tells, clockText, secondText, momentText, timeText};
 use crate::figures::Nine;
 use crate::figures::NineDisplay;
 use crate::figures::Two;
 use crate::figures::TwoDisplay;
 use std::fmt;
 
-const MINUTE: u32 = 60;
+const MINUTE: u64 = 60;
 
-const HOUR: u32 = 60 * MINUTE;
+const HOUR: u64 = 60 * MINUTE;
+
+// In nanoseconds.
+const SECOND: u64 = 1_000_000_000;
 
 // A second of the day, by the clock.
 #[derive(Clone, Copy)]
@@ -21,14 +26,15 @@ pub struct TimeOfDay {
 }
 
 impl TimeOfDay {
-    pub fn of(second: u32) -> TimeOfDay
+    pub fn of(second: u64) -> TimeOfDay
+        requires { ⌜ second < 2 ^ 35 ⌝ }
         ensures value { λ r. ⌜ r ≡ timeOfDay second ⌝ }
         ensures told { λ r. ⌜ Tells second r ⌝ }
     {
         TimeOfDay {
-            hours: second / HOUR,
-            minutes: second % HOUR / MINUTE,
-            seconds: second % MINUTE,
+            hours: (second / HOUR) as u32,
+            minutes: (second % HOUR / MINUTE) as u32,
+            seconds: (second % MINUTE) as u32,
         }
     }
 }
@@ -56,7 +62,7 @@ pub impl fmt::Display for Second as SecondDisplay {
 
     fn fmt<W: fmt::Write>(&self, f: &mut fmt::Formatter<W>) -> fmt::Result {
         match self.0 {
-            Some(second) => write!(f, "{}", TimeOfDay::of(second)),
+            Some(second) => write!(f, "{}", TimeOfDay::of(u64::from(second))),
             None => write!(f, "--:--:--"),
         }
     }
@@ -71,5 +77,19 @@ pub impl fmt::Display for Moment as MomentDisplay {
 
     fn fmt<W: fmt::Write>(&self, f: &mut fmt::Formatter<W>) -> fmt::Result {
         write!(f, "{}.{}", self.0, Nine(self.1))
+    }
+}
+
+// Nanoseconds past midnight.
+#[derive(Clone, Copy)]
+pub struct Time(pub u64);
+
+pub impl fmt::Display for Time as TimeDisplay {
+    ghost shown = { λ t. Some (timeText (t .0)) };
+
+    fn fmt<W: fmt::Write>(&self, f: &mut fmt::Formatter<W>) -> fmt::Result {
+        let second = TimeOfDay::of(self.0 / SECOND);
+        let nanos = (self.0 % SECOND) as u32;
+        write!(f, "{second}.{}", Nine(nanos))
     }
 }
