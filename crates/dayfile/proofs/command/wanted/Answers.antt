@@ -3,9 +3,9 @@ use Rattle.dayfile.specs.Records.{wanted}
 use Rattle.dayfile.specs.FramingLemmas.{framed}
 use Rattle.dayfile.proofs.command.wanted.Goals as goal
 
-pub returns-then-is-empty : goal.returns-then-is-empty
+pub returns-then-is_empty : goal.returns-then-is_empty
 unfolding wanted
-returns-then-is-empty c = record { value = search rules; framed = framed c.args.bytes.now }
+returns-then-is_empty c = record { value = search rules; framed = framed c.args.bytes.now }
 
 pub returns-in-default : goal.returns-in-default
 unfolding wanted

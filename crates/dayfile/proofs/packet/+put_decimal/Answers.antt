@@ -4,12 +4,12 @@ use Rattle.dayfile.proofs.Figures.{decimal_last, decimal_more, length_more}
 use Rattle.dayfile.proofs.packet.+put_decimal.Goals as goal
 use Rattle.dayfile.proofs.packet.+put_decimal.Goals.{then-n-ge10, else-n-ge10}
 
-pub put-decimal-requires : goal.put-decimal-requires
-put-decimal-requires t c =
+pub put_decimal-requires : goal.put_decimal-requires
+put_decimal-requires t c =
     let e = length_more c.args.n c.if-n-ge10.true c.ranges.n.fits in search rules
 
-pub put-u8-requires : goal.put-u8-requires
-put-u8-requires t c =
+pub put_u8-requires : goal.put_u8-requires
+put_u8-requires t c =
     elim c.if-n-ge10.branch [
       | then-n-ge10 w ↦ let e = length_more c.args.n w.if-n-ge10.true c.ranges.n.fits in search rules
       | else-n-ge10 w ↦ let e = ap length (decimal_last c.args.n w.if-n-ge10.false) in search rules

@@ -4,23 +4,23 @@ use Rattle.rules.specs.declared.fault.FileFault.TheVariants.{Engine}
 use Rattle.dayfile.proofs.Steps.{unread, refused, accepted, record_keeps}
 use Rattle.dayfile.proofs.taking.take_record.Goals as goal
 
-pub returns-in-err-command : goal.returns-in-err-command
-returns-in-err-command g c =
+pub returns-in_err-command : goal.returns-in_err-command
+returns-in_err-command g c =
     let h = g.E.Exchange.host c.args.exchange.now in
     let b = c.args.bytes.now in
-    let f = c.in-err-command.field-0.0 in
-    let p = err_from_is_err_and c.from-residual.result c.from-residual.ensures.1 in
-    let e = unread h b f c.in-err-command.ensures in
+    let f = c.in_err-command.field-0.0 in
+    let p = err_from_is_err_and c.from_residual.result c.from_residual.ensures.1 in
+    let e = unread h b f c.in_err-command.ensures in
     rw (p.1, p.2) (record { taken = e; kept = record_keeps h h b (Err f) e })
 
-pub returns-in-err-apply : goal.returns-in-err-apply
-returns-in-err-apply g c =
+pub returns-in_err-apply : goal.returns-in_err-apply
+returns-in_err-apply g c =
     let h = g.E.Exchange.host c.args.exchange.now in
     let k = g.E.Exchange.host c.apply.new.exchange in
     let b = c.args.bytes.now in
-    let f = c.in-err-apply.field-0.0 in
-    let p = err_from_is_err_and {Q = λ y. y ≡ Engine f} c.from-residual-in-err-apply.result c.from-residual-in-err-apply.ensures.1 in
-    let e = refused h k b c.in-ok-command.command f c.in-ok-command.ensures c.in-err-apply.ensures in
+    let f = c.in_err-apply.field-0.0 in
+    let p = err_from_is_err_and {Q = λ y. y ≡ Engine f} c.from_residual-in_err-apply.result c.from_residual-in_err-apply.ensures.1 in
+    let e = refused h k b c.in_ok-command.command f c.in_ok-command.ensures c.in_err-apply.ensures in
     rw (p.1, p.2) (record { taken = e; kept = record_keeps h k b (Err (Engine f)) e })
 
 pub returns : goal.returns
@@ -29,7 +29,7 @@ returns g c =
     let k = g.E.Exchange.host c.apply.new.exchange in
     record {
       taken =
-          accepted h k c.args.bytes.now c.in-ok-command.command c.in-ok-apply.field-0
-          c.in-ok-command.ensures c.in-ok-apply.ensures;
+          accepted h k c.args.bytes.now c.in_ok-command.command c.in_ok-apply.field-0
+          c.in_ok-command.ensures c.in_ok-apply.ensures;
       kept = tt;
     }

@@ -7,7 +7,7 @@ use Rattle.market.proofs.announcement.add_references.Goals as goal
 pub loop-book-preserved : goal.loop-book-preserved
 loop-book-preserved c =
     adding_more _ _ _ c.loop-book.book-index _ _ _ (_ ∷ []) c.loop-book-test.true refl (lit≤ tt)
-    (c.push.ensures ∙ ap (λ (x : Change). filled c.loop-book.changes ++ (x ∷ [])) c.reference-of.ensures)
+    (c.push.ensures ∙ ap (λ (x : Change). filled c.loop-book.changes ++ (x ∷ [])) c.reference_of.ensures)
     c.loop-book.invariant
 
 pub returns : goal.returns

@@ -9,19 +9,19 @@ use Rattle.matching.proofs.walk.walk.Goals as goal
 pub returns-in-default : goal.returns-in-default
 returns-in-default g c =
     let h : Host = model g.S.Records.list g.S.Records.room g.L.Line.meaning c.loop-newcomer.market in
-    sym (walk_unmet c.args.time (live h) h c.loop-newcomer.newcomer (sym c.best-met.ensures ∙ c.in-default.is)) ∙ c.loop-newcomer.invariant.0
+    sym (walk_unmet c.args.time (live h) h c.loop-newcomer.newcomer (sym c.best_met.ensures ∙ c.in-default.is)) ∙ c.loop-newcomer.invariant.0
 
 pub loop-newcomer-smaller : goal.loop-newcomer-smaller
 loop-newcomer-smaller g c =
     let h : Host = model g.S.Records.list g.S.Records.room g.L.Line.meaning c.loop-newcomer.market in
-    let met = sym c.best-met.ensures ∙ c.in-Some.is in
+    let met = sym c.best_met.ensures ∙ c.in-Some.is in
     let falls = walk_falls c.args.time h c.loop-newcomer.newcomer c.in-Some.place c.loop-newcomer-test.true met in
     rw (ap live c.execute-newcomer.ensures.host, c.execute-newcomer.ensures.left) falls
 
 pub loop-newcomer-preserved : goal.loop-newcomer-preserved
 loop-newcomer-preserved g c =
     let h : Host = model g.S.Records.list g.S.Records.room g.L.Line.meaning c.loop-newcomer.market in
-    let met = sym c.best-met.ensures ∙ c.in-Some.is in
+    let met = sym c.best_met.ensures ∙ c.in-Some.is in
     let turn = walk_turn c.args.time h c.loop-newcomer.newcomer c.in-Some.place c.loop-newcomer-test.true met in (
       ap (λ (i : Host). matched i c.args.time c.execute-newcomer.result) c.execute-newcomer.ensures.host
           ∙ ap (matched _ c.args.time) c.execute-newcomer.ensures.left

@@ -2,17 +2,17 @@ use Rattle.std.proofs.Common.{rules}
 use Rattle.dayfile.specs.Records.{record_read}
 use Rattle.dayfile.proofs.command.Command.read.Goals as goal
 
-pub returns-then-is-empty : goal.returns-then-is-empty
+pub returns-then-is_empty : goal.returns-then-is_empty
 unfolding record_read
-returns-then-is-empty c = search rules
+returns-then-is_empty c = search rules
 
 pub returns-in-default : goal.returns-in-default
 unfolding record_read
 returns-in-default c = search rules
 
-pub returns-in-err-length : goal.returns-in-err-length
+pub returns-in_err-length : goal.returns-in_err-length
 unfolding record_read
-returns-in-err-length c = search rules
+returns-in_err-length c = search rules
 
 pub returns-then-bytes-length : goal.returns-then-bytes-length
 unfolding record_read

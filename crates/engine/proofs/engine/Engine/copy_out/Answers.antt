@@ -10,6 +10,6 @@ returns g c =
     record {
       answer = search rules;
       after =
-          copied_both feed replies c.args.out.now c.copy-out-fed.new.out c.copy-out-replied.new.out c.min-start.result
-          c.copy-out-fed.ensures.after (search rules) c.copy-out-replied.ensures.after;
+          copied_both feed replies c.args.out.now c.copy_out-fed.new.out c.copy_out-replied.new.out c.min-start.result
+          c.copy_out-fed.ensures.after (search rules) c.copy_out-replied.ensures.after;
     }

@@ -8,13 +8,13 @@ use Rattle.ouch.proofs.replies.Accepted.decode.Goals as goal
 
 pub returns : goal.returns
 returns c =
-    let side : side_of c.byte-at.result ≡ Some c.in-ok-side.side = search rules in
-    let state : order_state_of c.byte-at-2.result ≡ Some c.in-ok-state.state = search rules in
-    let price : to_z w32 (of_z w32 c.i32-at.result) ≡ c.i32-at.result = search rules in
+    let side : side_of c.byte_at.result ≡ Some c.in_ok-side.side = search rules in
+    let state : order_state_of c.byte_at-2.result ≡ Some c.in_ok-state.state = search rules in
+    let price : to_z w32 (of_z w32 c.i32_at.result) ≡ c.i32_at.result = search rules in
     let row : Row accepted.fields =
-    c.u64-at.result & c.u32-at.result & c.text-at.result & c.byte-at.result & c.u32-at-2.result
-    & c.u32-at-3.result & c.text-at-2.result & c.i32-at.result & c.u32-at-4.result & c.u32-at-5.result
-    & c.byte-at-3.result & c.byte-at-4.result & c.u64-at-2.result & c.u32-at-6.result & c.byte-at-2.result
-    & c.byte-at-5.result & c.byte-at-6.result & tt in
+    c.u64_at.result & c.u32_at.result & c.text_at.result & c.byte_at.result & c.u32_at-2.result
+    & c.u32_at-3.result & c.text_at-2.result & c.i32_at.result & c.u32_at-4.result & c.u32_at-5.result
+    & c.byte_at-3.result & c.byte_at-4.result & c.u64_at-2.result & c.u32_at-6.result & c.byte_at-2.result
+    & c.byte_at-5.result & c.byte_at-6.result & tt in
     let read : row ≡ read_at accepted.fields 1 c.args.bytes.now = cc in
     decoded accepted c.args.bytes.now row _ (search rules) (search rules) read (rw (side, state, price))

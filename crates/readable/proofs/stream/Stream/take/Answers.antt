@@ -4,8 +4,8 @@ use Rattle.readable.proofs.stream.Stream.take.Goals as goal
 
 pub returns : goal.returns
 returns c =
-    let all = c.as-slice.ensures.value in
-    goes_on c.args.self.now c.args.bytes.now _ _ c.in-ok-shown.shown _ _
-    (all ∙ c.in-ok-extend-from-slice.ensures.items)
-    c.in-ok-shown.ensures
-    (c.in-ok-rest.ensures.tail ∙ ap (drop _) (sym all))
+    let all = c.as_slice.ensures.value in
+    goes_on c.args.self.now c.args.bytes.now _ _ c.in_ok-shown.shown _ _
+    (all ∙ c.in_ok-extend_from_slice.ensures.items)
+    c.in_ok-shown.ensures
+    (c.in_ok-rest.ensures.tail ∙ ap (drop _) (sym all))

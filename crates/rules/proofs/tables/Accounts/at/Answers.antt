@@ -6,7 +6,7 @@ use Rattle.rules.proofs.tables.Accounts.at.Goals as goal
 pub returns-then-k-len : goal.returns-then-k-len
 returns-then-k-len c =
     let within : c.args.k < length (filled c.args.self.now) = omega arith in
-    rw c.as-slice.ensures.value (get_or_default _ _ _ _ within)
+    rw c.as_slice.ensures.value (get_or_default _ _ _ _ within)
 
 pub returns-else-k-len : goal.returns-else-k-len
 returns-else-k-len c =

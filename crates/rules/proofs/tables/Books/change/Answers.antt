@@ -8,10 +8,10 @@ loop-k-preserved c =
     elim c.if-book-code.branch [
       | then-book-code w ↦
           simp (w.self-is, w.set.ensures, w.changed.ensures)
-          (adjusting_changed _ _ _ _ _ _ _ c.loop-k.invariant (omega arith) c.as-slice.ensures.value (eq-eqb _ _ w.if-book-code.true))
+          (adjusting_changed _ _ _ _ _ _ _ c.loop-k.invariant (omega arith) c.as_slice.ensures.value (eq-eqb _ _ w.if-book-code.true))
       | else-book-code w ↦
           simp w.self-is
-          (adjusting_kept _ _ _ _ _ _ _ c.loop-k.invariant (omega arith) c.as-slice.ensures.value (ne_eqb _ _ w.if-book-code.false))
+          (adjusting_kept _ _ _ _ _ _ _ c.loop-k.invariant (omega arith) c.as_slice.ensures.value (ne_eqb _ _ w.if-book-code.false))
     ]
 
 pub returns : goal.returns
