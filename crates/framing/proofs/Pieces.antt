@@ -1,5 +1,5 @@
 -- A unit that takes in no more than it lacks never has more bytes than its front says.
-use Rattle.std.proofs.Common.{◌≡◌, ℕ, ◌+◌, ◌<◌, ◌≤◌, List, [], ◌∷◌, ◌++◌, length, Ok, Err, Result, sym, refl, ap, ◌∙◌, subst, append-nil, arith, length-append}
+use Rattle.std.proofs.Common.{◌≡◌, ℕ, ◌+◌, ◌<◌, ◌≤◌, List, [], ◌∷◌, ◌++◌, length, Ok, Result, sym, refl, ap, ◌∙◌, subst, append-nil, arith, length-append}
 use Rattle.framing.specs.Unit.{Added}
 
 abbrev Grows : (List ℕ → ℕ) → Type 0

@@ -1,5 +1,7 @@
 // Units of a byte stream whose front tells how long they are: the records of a day file, the packets of a transport.
 // A unit is read whole before it is looked at, and no byte of the next one is read with it.
+#![tactic(auto)]
+
 ghost use Rattle.std.specs.Prelude.{◌≡◌, ℕ, ◌+◌, ◌≤◌, List, ◌++◌, length, vec_len};
 ghost use Rattle.framing.specs.Unit.{Reached, Added};
 

@@ -1,4 +1,6 @@
 // A Soup line against packets that were written by hand, and each refusal with what it leaves.
+#![tactic(auto)]
+
 #[cfg(test)]
 mod tests {
     use line::line::{Line, check_parts};
@@ -96,9 +98,9 @@ mod tests {
         assert_eq!(rt; line.read(2, &mut bytes), Err(Refusal::NoMessage));
         assert_eq!(rt; bytes, [MARK; 80]);
         assert_eq!(rt; line.read(1, &mut bytes), Ok(4));
-        assert_eq!(rt; &bytes[0..6], b"four\x09\x09");
+        assert_eq!(rt; &bytes[0..6], b"four\x09\x09".as_slice());
         assert_eq!(rt; line.read(0, &mut bytes), Ok(3));
-        assert_eq!(rt; &bytes[0..6], b"oner\x09\x09");
+        assert_eq!(rt; &bytes[0..6], b"oner\x09\x09".as_slice());
         assert_eq!(rt; counts(&line), (2, 0, 1));
         Ok(())
     }

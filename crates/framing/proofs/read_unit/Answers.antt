@@ -1,4 +1,4 @@
-use Rattle.std.proofs.Common.{◌≡◌, ℕ, ◌+◌, ◌<◌, ◌≤◌, length, Ok, vec_items, ap, ◌∙◌, arith}
+use Rattle.std.proofs.Common.{Ok, vec_items, ap, ◌∙◌, arith}
 use Rattle.framing.proofs.Pieces.{within, short}
 use Rattle.framing.proofs.read_unit.Goals as goal
 
