@@ -1,4 +1,6 @@
 // What the engine holds, and the one way by which what members can see is changed and told.
+#![tactic(auto)]
+
 pub mod announcement;
 pub mod change;
 pub mod count;

@@ -1,6 +1,6 @@
 -- The account at a place of a table's front has a new token.
 use Rattle.std.proofs.Common.{◌≡◌, ℕ, ◌<◌, List, length, get_or, take, set, ap, ◌∙◌}
-use lib.Seq.{take-set-lt}
+use Rattle.std.proofs.Math.Seq.{take-set-lt}
 use Rattle.std.proofs.lemmas.List.{get_or-take, get_or_default}
 use Rattle.rules.specs.declared.tables.Account.{Account}
 use Rattle.rules.specs.Tables.{no_account, token_used}

@@ -1,7 +1,7 @@
 // Why a call is refused. A message's fault stands inside the engine's, and the engine's inside the file's.
 ghost use Rattle.std.specs.Prelude.{◌≡◌};
 ghost use Rattle.rules.specs.Faults.{number, file_number, engine_layer, layer_of, place_of};
-ghost use Rattle.rules.specs.declared.fault.Fault.TheVariants.{Message as inEngine};
+ghost use Rattle.rules.specs.declared.fault.Fault.TheVariants.{Message as in_engine};
 ghost use Rattle.rules.specs.declared.fault.FileFault.TheVariants.{Engine as in_file};
 
 use line::refusal::Refusal;
@@ -55,7 +55,7 @@ pub enum Layer {
 }
 
 impl From<MessageFault> for Fault {
-    ghost from_gives = { λ f r. r ≡ inEngine f };
+    ghost from_gives = { λ f r. r ≡ in_engine f };
 
     fn from(fault: MessageFault) -> Fault {
         Fault::Message(fault)

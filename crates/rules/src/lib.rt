@@ -1,4 +1,6 @@
 // The rules of the day: its phases, what is loaded, how an order is judged, and why a call is refused.
+#![tactic(auto)]
+
 pub mod fault;
 pub mod keys;
 pub mod loading;

@@ -27,7 +27,7 @@ impl<'a, R> Register<'a, R> {
     pub fn find<K>(&self, key: &K) -> Option<&'a R>
     where
         R: Keyed<K>,
-        ensures { option_map (λ x. x.now) result ≡ first (λ x. has x key.now) self.now.records.now }
+        ensures { option_map (λ x. x.now) result ≡ first (λ x. R.has x key.now) self.now.records.now }
     {
         for x in self.records {
             if x.has_key(key) {

@@ -1,7 +1,5 @@
 -- The best of a side, under that side's order of yields.
-use Rattle.std.proofs.Common.{◌≡◌, ℕ, ◌<◌, true, false, List, length, ℤ, Some, None, Option, arith}
-use lib.Signed.{lt_z}
-use Rattle.std.proofs.lemmas.Int.{ints}
+use Rattle.std.proofs.Common.{◌≡◌, ℕ, ◌<◌, true, false, List, length, ℤ, int_lt, Some, None, Option, arith}
 use Rattle.fields.specs.declared.letters.Side.{Side}
 use Rattle.fields.specs.declared.letters.Side.TheVariants.{Buy, Sell}
 use Rattle.store.proofs.Leaders.{best_is_best}
@@ -9,11 +7,11 @@ use Rattle.store.proofs.Places.{nth_within}
 use Rattle.store.specs.Best.{ranks_of, best_place, IsBest}
 use Rattle.store.specs.declared.record.Record.{Record}
 
-above : (a b c : ℤ) → lt_z a b ≡ true → lt_z b c ≡ true → lt_z a c ≡ true
-above a b c p q = grind (arith, ints)
+above : (a b c : ℤ) → int_lt a b ≡ true → int_lt b c ≡ true → int_lt a c ≡ true
+above a b c p q = grind arith
 
-alike : (a b : ℤ) → lt_z a b ≡ false → lt_z b a ≡ false → a ≡ b
-alike a b p q = grind (arith, ints)
+alike : (a b : ℤ) → int_lt a b ≡ false → int_lt b a ≡ false → a ≡ b
+alike a b p q = grind arith
 
 pub side_best : (book : ℕ) (side : Side) (xs : List Record) → IsBest (ranks_of side) book side xs (best_place book side xs)
 side_best book Buy xs = best_is_best (ranks_of Buy) book Buy above alike xs

@@ -1,4 +1,6 @@
 // Tests of the order stores. They stand in a crate of their own, so that the stores' own is proved once.
+#![tactic(auto)]
+
 #[cfg(test)]
 mod calls;
 #[cfg(test)]

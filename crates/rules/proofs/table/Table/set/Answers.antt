@@ -1,5 +1,5 @@
 use Rattle.std.proofs.Common.{rules}
-use lib.Seq.{take-set-lt}
+use Rattle.std.proofs.Math.Seq.{take-set-lt}
 use Rattle.std.proofs.lemmas.List.{set_past, length-take}
 use Rattle.rules.proofs.table.Table.set.Goals as goal
 
