@@ -8,7 +8,7 @@ use Rattle.std.proofs.lemmas.Bool.{le-ltb, ltb-false, cond-false}
 use Rattle.std.proofs.lemmas.Bool.Decides.{nat_tests}
 use Rattle.readable.specs.declared.stream.Stream.{Stream}
 use Rattle.readable.specs.Packets.{packet_of, second_after}
-use Rattle.readable.specs.Streams.{wanted, first_packet, line_of, lines, second_after_all, Cut, Short, Shown, ShownWhole, Goes_on}
+use Rattle.readable.specs.Streams.{wanted, first_packet, line_of, lines, second_after_all, Cut, Short, Shown, ShownWhole, GoesOn}
 use Rattle.readable.proofs.Joins.{joined-append}
 
 -- the packet at the front of some bytes
@@ -105,7 +105,7 @@ shown-more {b} {s} {t} {n} {s₁} {t₁} p {s₂} {t₂} f h es et = record {
 }
 
 -- what has been shown of all bytes, once some more have come
-pub goes_on : (s : Stream) (bytes t all : List ℕ) (n : ℕ) (s' : Stream) (t' : List ℕ) → all ≡ vec_items s.pending ++ bytes → ShownWhole all s.second.0 t n s'.second.0 t' → vec_items s'.pending ≡ drop n all → Goes_on s bytes t s' t'
+pub goes_on : (s : Stream) (bytes t all : List ℕ) (n : ℕ) (s' : Stream) (t' : List ℕ) → all ≡ vec_items s.pending ++ bytes → ShownWhole all s.second.0 t n s'.second.0 t' → vec_items s'.pending ≡ drop n all → GoesOn s bytes t s' t'
 goes_on s bytes t all n s' t' is w e seen before h =
     let qs = w.shown.packets in (
       lines s.second.0 qs,

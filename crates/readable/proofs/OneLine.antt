@@ -16,7 +16,7 @@ use Rattle.itch.specs.declared.mark.Mark.TheVariants as mark
 use Rattle.ouch.specs.declared.letters.DayEvent.{DayEvent}
 use Rattle.ouch.specs.declared.letters.DayEvent.TheVariants as day_event
 use Rattle.ouch.specs.declared.letters.OrderState.{OrderState}
-use Rattle.ouch.specs.declared.letters.OrderState.TheVariants as orderState
+use Rattle.ouch.specs.declared.letters.OrderState.TheVariants as order_state
 use Rattle.ouch.specs.declared.letters.Liquidity.{Liquidity}
 use Rattle.ouch.specs.declared.letters.Liquidity.TheVariants as liquidity
 use Rattle.ouch.specs.declared.letters.CancelReason.{CancelReason}
@@ -104,8 +104,8 @@ day_event_one day_event.StartOfDay = refl
 day_event_one day_event.EndOfDay = refl
 
 order_state_one : (k : OrderState) → one_line (order_state_word k) ≡ true
-order_state_one orderState.Live = refl
-order_state_one orderState.Dead = refl
+order_state_one order_state.Live = refl
+order_state_one order_state.Dead = refl
 
 liquidity_one : (k : Liquidity) → one_line (liquidity_word k) ≡ true
 liquidity_one liquidity.Added = refl

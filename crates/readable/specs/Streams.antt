@@ -58,8 +58,8 @@ pub record SoFar (bytes : List ℕ) (s : Stream) (text : List ℕ) : Type 0 wher
   pub lined : text ≡ lines None packets
 
 -- Whatever came before, some bytes more add to a text what then has been shown of all of them.
-abbrev pub Goes_on : Stream → List ℕ → List ℕ → Stream → List ℕ → Type 0
-Goes_on s bytes text s' text' =
+abbrev pub GoesOn : Stream → List ℕ → List ℕ → Stream → List ℕ → Type 0
+GoesOn s bytes text s' text' =
     (seen before : List ℕ) →
     SoFar seen s before → (more : List ℕ) × (text' ≡ text ++ more) × SoFar (seen ++ bytes) s' (before ++ more)
 

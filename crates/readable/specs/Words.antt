@@ -9,7 +9,7 @@ use Rattle.itch.specs.declared.mark.Mark.TheVariants as mark
 use Rattle.ouch.specs.declared.letters.DayEvent.{DayEvent}
 use Rattle.ouch.specs.declared.letters.DayEvent.TheVariants as day_event
 use Rattle.ouch.specs.declared.letters.OrderState.{OrderState}
-use Rattle.ouch.specs.declared.letters.OrderState.TheVariants as orderState
+use Rattle.ouch.specs.declared.letters.OrderState.TheVariants as order_state
 use Rattle.ouch.specs.declared.letters.Liquidity.{Liquidity}
 use Rattle.ouch.specs.declared.letters.Liquidity.TheVariants as liquidity
 use Rattle.ouch.specs.declared.letters.CancelReason.{CancelReason}
@@ -40,8 +40,8 @@ day_event_word day_event.EndOfDay = codes "end-of-day"
 
 -- the states of orders and the reasons of replies by letter and word
 abbrev pub order_state_word : OrderState → List ℕ
-order_state_word orderState.Live = codes "L:live"
-order_state_word orderState.Dead = codes "D:dead"
+order_state_word order_state.Live = codes "L:live"
+order_state_word order_state.Dead = codes "D:dead"
 
 abbrev pub liquidity_word : Liquidity → List ℕ
 liquidity_word liquidity.Added = codes "added"

@@ -1,4 +1,6 @@
 // What the host sends, as lines that can be read.
+#![tactic(auto)]
+
 mod bytes;
 mod figures;
 mod hex;

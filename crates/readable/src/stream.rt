@@ -2,7 +2,7 @@
 ghost use Rattle.std.specs.Prelude.{◌≡◌, [], ◌++◌, IfOk, Some, string_bytes, OnOk};
 ghost use Rattle.std.specs.Option.{option_map};
 ghost use Rattle.readable.specs.Packets.{packet_of, second_after};
-ghost use Rattle.readable.specs.Streams.{wanted, first_packet, line_of, ShownWhole, SoFar, Goes_on, CutOnce, FramedCut, truncation, truncated_line};
+ghost use Rattle.readable.specs.Streams.{wanted, first_packet, line_of, ShownWhole, SoFar, GoesOn, CutOnce, FramedCut, truncation, truncated_line};
 
 use crate::line::Line;
 use crate::packet::{LENGTH_BYTES, Packet};
@@ -93,7 +93,7 @@ impl Stream {
 
     // Some bytes more have come: the lines of the packets that are whole by now go behind `text`.
     pub fn take(&mut self, bytes: &[u8], text: &mut String) -> io::Result<()>
-        ensures { OnOk result (Goes_on self.old bytes.now (string_bytes text.old) self.new (string_bytes text.new)) }
+        ensures { OnOk result (GoesOn self.old bytes.now (string_bytes text.old) self.new (string_bytes text.new)) }
     {
         self.pending.extend_from_slice(bytes)?;
         let shown = show_whole(self.pending.as_slice(), &mut self.second, text)?;

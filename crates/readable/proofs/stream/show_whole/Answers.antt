@@ -30,5 +30,5 @@ returns c = record {
   shown = c.loop-packet.invariant.1;
   within = c.loop-packet.invariant.0;
   short = short_from _
-      (c.in-default.ensures ∙ ap first_packet (take_rest c.args.bytes.now c.loop-packet.at));
+      (c.in_default.ensures ∙ ap first_packet (take_rest c.args.bytes.now c.loop-packet.at));
 }

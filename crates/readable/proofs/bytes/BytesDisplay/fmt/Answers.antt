@@ -12,4 +12,4 @@ pub loop-byte-init : goal.loop-byte-init
 loop-byte-init g c plain = record { wrote = writes_in_calls_nil _ _; plain = plain }
 
 pub loop-byte-preserved : goal.loop-byte-preserved
-loop-byte-preserved g c plain = let before = c.loop-byte.invariant plain in let step = c.in_ok-write.ensures.shows in has_written_of_eq _ _ _ _ _ (spelling-more _ _ _ c.loop-byte-test.true) (has_written_append _ _ _ _ _ _ before (step before.plain refl))
+loop-byte-preserved g c plain = let before = c.loop-byte.invariant plain in let step = c.in_ok-write.ensures.writes in has_written_of_eq _ _ _ _ _ (spelling-more _ _ _ c.loop-byte-test.true) (has_written_append _ _ _ _ _ _ before (step before.plain refl))
