@@ -7,9 +7,9 @@ pub returns-then-is_empty : goal.returns-then-is_empty
 unfolding wanted
 returns-then-is_empty c = record { value = search rules; framed = framed c.args.bytes.now }
 
-pub returns-in-default : goal.returns-in-default
+pub returns-in_default : goal.returns-in_default
 unfolding wanted
-returns-in-default c = record { value = search rules; framed = framed c.args.bytes.now }
+returns-in_default c = record { value = search rules; framed = framed c.args.bytes.now }
 
 pub returns-in-Ok : goal.returns-in-Ok
 unfolding wanted

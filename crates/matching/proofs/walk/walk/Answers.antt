@@ -6,10 +6,10 @@ use Rattle.matching.specs.Matching.{matched}
 use Rattle.matching.proofs.Walks.{walk-filled, walk_unmet, walk_turn, walk_falls, walk_numbers}
 use Rattle.matching.proofs.walk.walk.Goals as goal
 
-pub returns-in-default : goal.returns-in-default
-returns-in-default g c =
+pub returns-in_default : goal.returns-in_default
+returns-in_default g c =
     let h : Host = model g.S.Records.list g.S.Records.room g.L.Line.meaning c.loop-newcomer.market in
-    sym (walk_unmet c.args.time (live h) h c.loop-newcomer.newcomer (sym c.best_met.ensures ∙ c.in-default.is)) ∙ c.loop-newcomer.invariant.0
+    sym (walk_unmet c.args.time (live h) h c.loop-newcomer.newcomer (sym c.best_met.ensures ∙ c.in_default.is)) ∙ c.loop-newcomer.invariant.0
 
 pub loop-newcomer-smaller : goal.loop-newcomer-smaller
 loop-newcomer-smaller g c =

@@ -6,9 +6,9 @@ pub returns-then-is_empty : goal.returns-then-is_empty
 unfolding record_read
 returns-then-is_empty c = search rules
 
-pub returns-in-default : goal.returns-in-default
+pub returns-in_default : goal.returns-in_default
 unfolding record_read
-returns-in-default c = search rules
+returns-in_default c = search rules
 
 pub returns-in_err-length : goal.returns-in_err-length
 unfolding record_read
