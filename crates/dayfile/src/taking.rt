@@ -9,7 +9,7 @@ use rules::fault::{Fault, FileFault};
 
 // The call that a command makes.
 pub fn apply<E: Exchange>(exchange: &mut E, command: Command) -> Result<(u64, u64), Fault>
-    ensures { outcome result (host exchange.new) ≡ called (host exchange.old) command }
+    ensures { outcome result (E.host exchange.new) ≡ called (E.host exchange.old) command }
 {
     match command {
         Command::Row(row) => exchange.load_row(row),
@@ -25,8 +25,8 @@ pub fn apply<E: Exchange>(exchange: &mut E, command: Command) -> Result<(u64, u6
 
 // The first record of the bytes: read, and called. A fault leaves the host as it was.
 pub fn take_record<E: Exchange>(exchange: &mut E, bytes: &[u8]) -> Result<(u64, u64), FileFault>
-    ensures taken { filed result (host exchange.new) ≡ record_taken (host exchange.old) bytes.now }
-    ensures kept { Unmoved result (host exchange.old) (host exchange.new) }
+    ensures taken { filed result (E.host exchange.new) ≡ record_taken (E.host exchange.old) bytes.now }
+    ensures kept { Unmoved result (E.host exchange.old) (E.host exchange.new) }
 {
     let command = Command::read(bytes)?;
     Ok(apply(exchange, command)?)
