@@ -26,7 +26,7 @@ fn a_day_with_nothing_loaded(rt: HostRuntime) -> Result<(), Fail> {
     let mut host = Engine::new(store, feed, replies, 1, 1);
     let mut out = [7u8; 22];
     assert!(rt; matches!(play_record(&mut host, &BEGIN, &mut out), Ok((21, 0))));
-    assert_eq!(rt; &out[0..21], &TOLD);
+    assert_eq!(rt; &out[0..21], TOLD.as_slice());
     assert!(rt; out[21] == 7);
     let again = play_record(&mut host, &BEGIN, &mut out);
     assert!(rt; matches!(again, Err(FileFault::Engine(_))));

@@ -52,14 +52,17 @@ fn wants_the_whole_record(rt: HostRuntime) {
 #[test]
 fn says_the_fault(rt: HostRuntime) {
     let phase = FileFault::Engine(Fault::Phase);
-    assert_eq!(rt; fault_packet(phase, 11).bytes(), b"\x00\x0c+engine 9 11");
+    assert_eq!(rt;
+        fault_packet(phase, 11).bytes(),
+        b"\x00\x0c+engine 9 11".as_slice()
+    );
     let empty = FileFault::Engine(Fault::Message(MessageFault::Empty));
     assert_eq!(rt;
         fault_packet(empty, 1000).bytes(),
-        b"\x00\x0f+message 3 1012"
+        b"\x00\x0f+message 3 1012".as_slice()
     );
     assert_eq!(rt;
         fault_packet(FileFault::Truncated, 0).bytes(),
-        b"\x00\x09+file 2 0"
+        b"\x00\x09+file 2 0".as_slice()
     );
 }
