@@ -1,5 +1,5 @@
 -- A turn of the program, from what its calls answer.
-use Rattle.std.proofs.Common.{◌≡◌, ℕ, List, length, IsErrAnd, Ok, Err, Result, sym, refl, ap, ◌∙◌}
+use Rattle.std.proofs.Common.{◌≡◌, ℕ, List, length, IsErrAnd, Ok, Err, Result, ap, ◌∙◌}
 use Rattle.line.specs.Meaning.{over}
 use Rattle.line.specs.Soup.{packets}
 use Rattle.rules.specs.declared.fault.Fault.{Fault}

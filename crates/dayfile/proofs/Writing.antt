@@ -1,15 +1,14 @@
 -- What a record asks is read back from its bytes, and only from them.
-use Rattle.std.proofs.Common.{◌≡◌, ℕ, ◌+◌, ◌^◌, ◌<◌, ◌≤◌, cond, eqb, List, [], ◌∷◌, ◌++◌, length, get_or, take, drop, Some, None, Ok, Err, Option, sym, refl, ap, ◌∙◌, subst, ap₂, arith, length-append, length-drop, length-take}
+use Rattle.std.proofs.Common.{◌≡◌, ℕ, ◌+◌, ◌^◌, ◌<◌, ◌≤◌, List, ◌∷◌, ◌++◌, length, get_or, take, drop, Some, None, Ok, Option, sym, refl, ap, ◌∙◌, ap₂, arith, length-append, length-drop, length-take}
 use Rattle.std.specs.Int.Digits.{number_from_digits, AllBelowBase}
 use Rattle.std.proofs.ByRecursion.{All-take, All-drop}
 use Rattle.std.proofs.lemmas.List.{take_at, take-append-drop, drop_more, drop-drop}
 use Rattle.std.proofs.lemmas.Bool.Decides.{nat_tests}
 use Rattle.fields.specs.Be.{be}
-use Rattle.fields.specs.Layout.{Kind, Row, Fits, size, sizes, write, read_at, apply}
+use Rattle.fields.specs.Layout.{Row, Fits, write, read_at, apply}
 use Rattle.fields.proofs.Be.{length-be, number-be, be-number}
 use Rattle.fields.proofs.Rows.{read_write, write_read, letter_back}
-use Rattle.rules.specs.declared.fault.FileFault.TheVariants.{Truncated}
-use Rattle.dayfile.specs.Records.{tag_byte, tags, tag_of, kinds, command_of, value_length, stated, value_read, wanted, read_under, record_read}
+use Rattle.dayfile.specs.Records.{tag_byte, tags, tag_of, kinds, command_of, value_length, stated, value_read, wanted, record_read}
 use Rattle.dayfile.specs.Framing.{tag_for, values, record_bytes, RecordsSound}
 use Rattle.dayfile.specs.declared.command.Command.{Command}
 use Rattle.dayfile.specs.declared.command.Command.TheVariants as command

@@ -1,5 +1,5 @@
 -- The known days, computed.
-use Rattle.std.proofs.Common.{◌≡◌, refl}
+use Rattle.std.proofs.Common.{refl}
 use Rattle.fields.specs.Be.{be}
 use Rattle.itch.specs.Feed.{feed_bytes}
 use Rattle.ouch.specs.Inbound.{inbound}

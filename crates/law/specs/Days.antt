@@ -1,6 +1,6 @@
 -- Known days: each is a list of calls with what the feed tells and what the accounts are told. Lots are 2,000, and ticks 1
 -- unless a day says otherwise.
-use Rattle.std.specs.Prelude.{◌≡◌, ℕ, ◌+◌, Bool, true, false, cond, ◌&&◌, List, [], ◌∷◌, ◌++◌, map, length, replicate, ℤ, pos, negsuc}
+use Rattle.std.specs.Prelude.{◌≡◌, ℕ, ◌+◌, Bool, true, false, ◌&&◌, List, [], ◌∷◌, ◌++◌, map, replicate, ℤ, pos, negsuc}
 use Rattle.std.specs.Str.{bytes_eq}
 use Rattle.fields.specs.Letters.{side_byte}
 use Rattle.fields.specs.Layout.{encode}

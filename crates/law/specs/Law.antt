@@ -1,5 +1,5 @@
 -- The law over whole runs: what a listener holds, that no book crosses, and what a second copy changes.
-use Rattle.std.specs.Prelude.{◌≡◌, ℕ, ◌+◌, ◌-◌, ◌*◌, ◌/◌, ◌≤◌, Bool, true, false, cond, ◌&&◌, ◌||◌, List, [], ◌∷◌, ◌++◌, map, length, take, drop, ℤ, IsSomeAnd, Some, None, Ok, Err, Option, Result, ◌==◌, int_le, slice_index_or}
+use Rattle.std.specs.Prelude.{◌≡◌, ℕ, ◌+◌, ◌-◌, ◌*◌, ◌/◌, ◌≤◌, Bool, true, false, cond, ◌&&◌, List, [], ◌∷◌, ◌++◌, map, length, take, drop, IsSomeAnd, Some, Ok, Err, Result, ◌==◌, int_le, slice_index_or}
 use Rattle.std.specs.Option.{unwrap_or}
 use Rattle.std.specs.List.{AllByRecursion as All}
 use Rattle.fields.specs.Letters.{event_byte, state_of}

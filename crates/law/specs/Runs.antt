@@ -1,5 +1,5 @@
 -- A run: any list of calls on an engine that was just made, refused calls counted.
-use Rattle.std.specs.Prelude.{◌≡◌, ℕ, ◌+◌, ◌^◌, ◌<◌, ◌≤◌, Bool, cond, List, [], ◌∷◌, ◌++◌, map, length, drop, ℤ, is_ok, Ok, Err, Result, FitsSigned}
+use Rattle.std.specs.Prelude.{◌≡◌, ℕ, ◌+◌, ◌^◌, ◌<◌, ◌≤◌, cond, List, [], ◌∷◌, ◌++◌, map, length, drop, ℤ, is_ok, Ok, Err, Result, FitsSigned}
 use Rattle.std.specs.Int.{w32}
 use Rattle.std.specs.Int.Digits.{AllBelowBase}
 use Rattle.line.specs.Meaning.{Meaning, fresh}

@@ -26,7 +26,7 @@ use Rattle.market.specs.Host.{Host, live, with_clock, with_token}
 use Rattle.market.specs.declared.change.Change.TheVariants as change
 use Rattle.matching.specs.Matching.{Walked, best_met, dealt, executed, executed_reply, is_dead, matched, meeting_quantity, placed, settled, unfilled_reply, walk, walked}
 use Rattle.orders.specs.Orders.{accepted_as, accepted_reply, amended, answered, canceled_at, full, judged, newcomer, numbered, reason_at, rejected_reply, rejudged, replaced_at, replaced_reply, replacement}
-use Rattle.law.specs.Runs.{message, step}
+use Rattle.law.specs.Runs.{step}
 use Rattle.law_orders.specs.Statements.{SilentLeaves}
 
 -- ---- every first reply to a message fits the line

@@ -1,15 +1,14 @@
 -- One execution at a time, the walk comes to its end.
-use Rattle.std.proofs.Common.{◌≡◌, ℕ, zero, suc, ◌+◌, ◌-◌, ◌<◌, ◌≤◌, min, Bool, true, false, cond, eqb, leb, ◌⊎◌, length, set, Some, None, Option, sym, refl, ap, ◌∙◌, inl, inr, arith}
+use Rattle.std.proofs.Common.{◌≡◌, ℕ, zero, suc, ◌+◌, ◌-◌, ◌<◌, ◌≤◌, min, Bool, true, false, cond, eqb, leb, ◌⊎◌, Some, None, Option, sym, refl, ap, ◌∙◌, inl, inr, arith}
 use Rattle.std.proofs.lemmas.List.Edits.{length-remove}
 use Rattle.std.proofs.lemmas.List.{length-set}
-use Rattle.std.proofs.lemmas.Bool.{cases_Bool, leb-true, leb-false, ne_eqb}
-use Rattle.std.specs.List.{remove}
+use Rattle.std.proofs.lemmas.Bool.{cases_Bool, leb-false, ne_eqb}
 use Rattle.store.proofs.Sides.{side_best_within}
 use Rattle.store.specs.Best.{best_place, opposite}
 use Rattle.store.specs.declared.record.Record.{Record}
 use Rattle.market.specs.Changes.{record_at, lessened}
 use Rattle.market.specs.Host.{Host, live}
-use Rattle.matching.specs.Matching.{meets, dealt, executed, if_met, best_met, Walked, walked, walk, matched}
+use Rattle.matching.specs.Matching.{meets, dealt, executed, if_met, best_met, walked, walk, matched}
 
 same_either : {A : Type 0} (b : Bool) (x : A) → cond b x x ≡ x
 same_either true x = refl

@@ -1,5 +1,5 @@
 -- How a newcomer executes against the orders that it meets.
-use Rattle.std.specs.Prelude.{ℕ, zero, suc, ◌+◌, min, Bool, cond, ◌&&◌, ◌||◌, List, [], ◌∷◌, length, ℤ, Some, None, Option, ◌==◌, int_le, nat_lt}
+use Rattle.std.specs.Prelude.{ℕ, zero, suc, ◌+◌, min, Bool, cond, ◌&&◌, ◌||◌, List, [], ◌∷◌, ℤ, Some, None, Option, ◌==◌, int_le, nat_lt}
 use Rattle.fields.specs.declared.letters.Side.{Side}
 use Rattle.fields.specs.declared.letters.Side.TheVariants.{Buy, Sell}
 use Rattle.ouch.specs.declared.letters.CancelReason.TheVariants as cancels

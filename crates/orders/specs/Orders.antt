@@ -1,5 +1,5 @@
 -- What an accepted message does: Enter, Replace, Cancel.
-use Rattle.std.specs.Prelude.{ℕ, ◌+◌, Bool, cond, ◌||◌, List, [], ◌∷◌, length, Some, None, Option, ◌==◌, nat_le}
+use Rattle.std.specs.Prelude.{ℕ, ◌+◌, Bool, cond, ◌||◌, Some, None, Option, ◌==◌, nat_le}
 use Rattle.std.specs.Option.{unwrap_or}
 use Rattle.fields.specs.Letters.{side_of}
 use Rattle.fields.specs.Texts.{djgb}

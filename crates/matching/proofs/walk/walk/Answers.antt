@@ -1,5 +1,4 @@
-use Rattle.std.proofs.Common.{◌+◌, ◌<◌, ◌≤◌, min, length, sym, ap, ◌∙◌, arith}
-use Rattle.store.specs.declared.record.Record.{Record}
+use Rattle.std.proofs.Common.{sym, ap, ◌∙◌, arith}
 use Rattle.market.specs.Host.{Host, live}
 use Rattle.market.specs.Meaning.{model}
 use Rattle.matching.specs.Matching.{matched}

@@ -1,4 +1,4 @@
-use Rattle.std.proofs.Common.{sym, ap, ◌∙◌, rules}
+use Rattle.std.proofs.Common.{sym, ap, ◌∙◌}
 use Rattle.store.specs.declared.record.Record.{Record}
 use Rattle.market.specs.Host.{Host}
 use Rattle.market.specs.Meaning.{model}
