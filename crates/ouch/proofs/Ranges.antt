@@ -11,7 +11,8 @@ passed : {M : Type 0} (t : Bool) (o : Option M) (m : M) → cond t o None ≡ So
 passed true o m e = (refl, e)
 passed false o m e = (cc, cc)
 
-pub sound_length : {M : Type 0} (f : Format M) → Sound f → (m : M) → Fitting f m → length (encode f m) ≡ 1 + sizes f.fields
+pub sound_length : {M : Type 0} (f : Format M) → Sound f → (m : M) → Fitting f m
+    → length (encode f m) ≡ 1 + sizes f.fields
 sound_length f s m h = eqb-true _ _ (passed (eqb (length (encode f m)) (1 + sizes f.fields)) _ m (s.returns m h)).0
 
 fit_get : (k : Kind) (b : List ℕ) → length b ≡ size k → AllBelowBase 256 b → Fit k (get k b)
@@ -20,7 +21,8 @@ fit_get (uint w) b e u = subst (λ n. number_from_digits 256 b < 256 ^ n) e (num
 fit_get int b e u = sfits_to_z (record { fits = subst (λ n. number_from_digits 256 b < 256 ^ n) e (number_lt 256 b u) })
 fit_get (text w) b e u = e
 
-fits_read : (ks : List Kind) (b : List ℕ) (at : ℕ) → at + sizes ks ≡ length b → AllBelowBase 256 b → Fits ks (read_at ks at b)
+fits_read : (ks : List Kind) (b : List ℕ) (at : ℕ) → at + sizes ks ≡ length b → AllBelowBase 256 b
+    → Fits ks (read_at ks at b)
 fits_read [] b at e u = tt
 fits_read (k ∷ ks) b at e u =
     let l : length (take (size k) (drop at b)) ≡ size k = simp (length-take, length-drop) (omega arith) in (
@@ -33,7 +35,8 @@ fits_read (k ∷ ks) b at e u =
 abbrev pub Back : {M : Type 0} → Format M → Type 0
 Back {M} f = (r : Row f.fields) (m : M) → apply f.fields f.made r ≡ Some m → f.row m ≡ r
 
-pub fits_decoded : {M : Type 0} (f : Format M) → Back f → (b : List ℕ) (m : M) → AllBelowBase 256 b → decode f b ≡ Some m → Fitting f m
+pub fits_decoded : {M : Type 0} (f : Format M) → Back f → (b : List ℕ) (m : M) → AllBelowBase 256 b
+    → decode f b ≡ Some m → Fitting f m
 fits_decoded f back b m u e =
     let p = passed (eqb (length b) (1 + sizes f.fields)) _ m e in
     let q = passed (eqb (get_or b 0 0) f.letter) (apply f.fields f.made (read_at f.fields 1 b)) m p.1 in

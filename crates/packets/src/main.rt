@@ -1,4 +1,6 @@
 // Reads the host's packets from standard input and writes a line for each to standard output.
+#![tactic(auto)]
+
 use readable::stream::{Stream, Truncated};
 use std::alloc::Global;
 use std::io;
@@ -66,7 +68,7 @@ mod tests {
         let missing = show(rt.alloc(), &mut input, &mut out)?.ok_or("whole")?;
         let told = format!(in rt.alloc(); "{missing}")?;
         assert_eq!(rt; told.as_str(), "truncated: 4 of 8 bytes");
-        assert!(rt; out.as_slice() == b"? 0001 5A\n");
+        assert!(rt; out.as_slice() == b"? 0001 5A\n".as_slice());
         Ok(())
     }
 

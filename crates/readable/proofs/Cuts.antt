@@ -29,7 +29,8 @@ wanted_front b w e in' =
     let two : 2 ≤ length b = long b (omega arith) in
     let more : 2 ≤ w = omega (arith, wanted_long b two) in
     let size : length (take w b) ≡ w = length-take-le w b in' in
-    wanted_long (take w b) (omega arith) ∙ ap (λ f. 2 + number_from_digits 256 f) (take-take 2 w b more) ∙ sym (wanted_long b two) ∙ sym e
+    wanted_long (take w b) (omega arith) ∙ ap (λ f. 2 + number_from_digits 256 f) (take-take 2 w b more)
+    ∙ sym (wanted_long b two) ∙ sym e
 
 front_at : (r : List ℕ) (w : ℕ) → w ≡ wanted r → w ≤ length r → Front r (take w r)
 front_at r w e in' =
@@ -59,7 +60,8 @@ pub short_from : (r : List ℕ) → None ≡ first_packet r → Short r
 short_from r e = let h = none_from (ltb (length r) (wanted r)) (take (wanted r) r) e in grind (arith, nat_tests)
 
 -- the rest is cut further
-cut_then : {b : List ℕ} {ps : List (List ℕ)} {r : List ℕ} {qs : List (List ℕ)} {t : List ℕ} → Cut b ps r → Cut r qs t → Cut b (ps ++ qs) t
+cut_then : {b : List ℕ} {ps : List (List ℕ)} {r : List ℕ} {qs : List (List ℕ)} {t : List ℕ} → Cut b ps r → Cut r qs t
+    → Cut b (ps ++ qs) t
 cut_then {b} {ps} {r} {qs} {t} c d = record {
   joins = ap (λ x. x ++ t) (joined-append (λ p. p) ps qs)
       ∙ append_assoc (flat_map (λ p. p) ps) (flat_map (λ p. p) qs) t
@@ -69,7 +71,8 @@ cut_then {b} {ps} {r} {qs} {t} c d = record {
 }
 
 -- more bytes come
-cut_longer : {b : List ℕ} {ps : List (List ℕ)} {r : List ℕ} (more : List ℕ) → Cut b ps r → Cut (b ++ more) ps (r ++ more)
+cut_longer : {b : List ℕ} {ps : List (List ℕ)} {r : List ℕ} (more : List ℕ) → Cut b ps r
+    → Cut (b ++ more) ps (r ++ more)
 cut_longer {b} {ps} {r} more c = record {
   joins = sym (append_assoc (flat_map (λ p. p) ps) r more) ∙ ap (λ x. x ++ more) c.joins;
   whole = c.whole;
@@ -78,20 +81,25 @@ cut_longer {b} {ps} {r} more c = record {
 cut_one : {r : List ℕ} (p : List ℕ) → Front r p → Cut r (p ∷ []) (drop (length p) r)
 cut_one {r} p f = record { joins = ap (λ x. x ++ drop (length p) r) (append-nil p) ∙ f.joins; whole = (f.whole, tt) }
 
-after_append : (s : Option ℕ) (ps qs : List (List ℕ)) → second_after_all s (ps ++ qs) ≡ second_after_all (second_after_all s ps) qs
+after_append : (s : Option ℕ) (ps qs : List (List ℕ))
+    → second_after_all s (ps ++ qs) ≡ second_after_all (second_after_all s ps) qs
 after_append s [] qs = refl
 after_append s (p ∷ ps) qs = after_append (second_after s (packet_of p)) ps qs
 
-lines-append : (s : Option ℕ) (ps qs : List (List ℕ)) → lines s (ps ++ qs) ≡ lines s ps ++ lines (second_after_all s ps) qs
+lines-append : (s : Option ℕ) (ps qs : List (List ℕ))
+    → lines s (ps ++ qs) ≡ lines s ps ++ lines (second_after_all s ps) qs
 lines-append s [] qs = refl
 lines-append s (p ∷ ps) qs =
-    ap (λ t. line_of s p ++ t) (lines-append (second_after s (packet_of p)) ps qs) ∙ sym (append_assoc (line_of s p) _ _)
+    ap (λ t. line_of s p ++ t) (lines-append (second_after s (packet_of p)) ps qs)
+    ∙ sym (append_assoc (line_of s p) _ _)
 
 pub shown_none : (b : List ℕ) (s : Option ℕ) (t : List ℕ) → Shown b s t 0 s t
 shown_none b s t =
     record { packets = []; cut = record { joins = refl; whole = tt }; second = refl; lined = sym (append-nil t) }
 
-pub shown-more : {b : List ℕ} {s : Option ℕ} {t : List ℕ} {n : ℕ} {s₁ : Option ℕ} {t₁ : List ℕ} (p : List ℕ) {s₂ : Option ℕ} {t₂ : List ℕ} → Front (drop n b) p → Shown b s t n s₁ t₁ → s₂ ≡ second_after s₁ (packet_of p) → t₂ ≡ t₁ ++ line_of s₁ p → Shown b s t (n + length p) s₂ t₂
+pub shown-more : {b : List ℕ} {s : Option ℕ} {t : List ℕ} {n : ℕ} {s₁ : Option ℕ} {t₁ : List ℕ} (p : List ℕ)
+    {s₂ : Option ℕ} {t₂ : List ℕ} → Front (drop n b) p → Shown b s t n s₁ t₁ → s₂ ≡ second_after s₁ (packet_of p)
+    → t₂ ≡ t₁ ++ line_of s₁ p → Shown b s t (n + length p) s₂ t₂
 shown-more {b} {s} {t} {n} {s₁} {t₁} p {s₂} {t₂} f h es et = record {
   packets = h.packets ++ p ∷ [];
   cut = rw (← drop-drop) (cut_then h.cut (cut_one p f));
@@ -105,14 +113,17 @@ shown-more {b} {s} {t} {n} {s₁} {t₁} p {s₂} {t₂} f h es et = record {
 }
 
 -- what has been shown of all bytes, once some more have come
-pub goes_on : (s : Stream) (bytes t all : List ℕ) (n : ℕ) (s' : Stream) (t' : List ℕ) → all ≡ vec_items s.pending ++ bytes → ShownWhole all s.second.0 t n s'.second.0 t' → vec_items s'.pending ≡ drop n all → GoesOn s bytes t s' t'
+pub goes_on : (s : Stream) (bytes t all : List ℕ) (n : ℕ) (s' : Stream) (t' : List ℕ)
+    → all ≡ vec_items s.pending ++ bytes → ShownWhole all s.second.0 t n s'.second.0 t'
+    → vec_items s'.pending ≡ drop n all → GoesOn s bytes t s' t'
 goes_on s bytes t all n s' t' is w e seen before h =
     let qs = w.shown.packets in (
       lines s.second.0 qs,
       w.shown.lined,
       record {
         packets = h.packets ++ qs;
-        cut = subst (Cut (seen ++ bytes) (h.packets ++ qs)) (sym e) (cut_then (cut_longer bytes h.cut) (subst (λ x. Cut x qs (drop n all)) is w.shown.cut));
+        cut = subst (Cut (seen ++ bytes) (h.packets ++ qs)) (sym e)
+            (cut_then (cut_longer bytes h.cut) (subst (λ x. Cut x qs (drop n all)) is w.shown.cut));
         short = subst Short (sym e) w.short;
         second = w.shown.second
             ∙ ap (λ x. second_after_all x qs) h.second

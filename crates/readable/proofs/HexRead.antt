@@ -1,5 +1,5 @@
 -- Hexadecimal digits, read back.
-use Rattle.std.proofs.Common.{◌≡◌, ℕ, ◌+◌, ◌/◌, ◌%◌, ◌<◌, true, not, ◌&&◌, eqb, leb, List, [], ◌∷◌, ◌++◌, take, drop, codes, filter, sym, refl, ap, ◌∙◌, arith}
+use Rattle.std.proofs.Common.{◌≡◌, ℕ, ◌/◌, ◌%◌, ◌<◌, true, not, ◌&&◌, eqb, leb, List, [], ◌∷◌, ◌++◌, take, drop, codes, filter, sym, refl, ap, ◌∙◌, arith}
 use Rattle.std.specs.Str.Parse.{digits_value}
 use Rattle.std.specs.Char.{digit_value as digitValue}
 use Rattle.std.specs.Int.Digits.{AllBelowBase}
@@ -43,7 +43,8 @@ solid n = let h = digit_seen n in grind (arith, nat_tests)
 kept_byte : (b : ℕ) → filter (λ c. not (eqb c 32)) (hex_byte b) ≡ hex_byte b
 kept_byte b = simp (solid (b / 16), solid b)
 
-kept_all : (f : ℕ → List ℕ) → ((b : ℕ) → filter (λ c. not (eqb c 32)) (f b) ≡ hex_byte b) → (bs : List ℕ) → filter (λ c. not (eqb c 32)) (flat_map f bs) ≡ flat_map hex_byte bs
+kept_all : (f : ℕ → List ℕ) → ((b : ℕ) → filter (λ c. not (eqb c 32)) (f b) ≡ hex_byte b) → (bs : List ℕ)
+    → filter (λ c. not (eqb c 32)) (flat_map f bs) ≡ flat_map hex_byte bs
 kept_all f one [] = refl
 kept_all f one (b ∷ bs) =
     filter-append (λ c. not (eqb c 32)) (f b) (flat_map f bs) ∙ (λ i. one b i ++ kept_all f one bs i)

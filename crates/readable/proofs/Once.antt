@@ -13,12 +13,14 @@ wanted-append : (p x : List ℕ) → length p ≡ wanted p → wanted (p ++ x) �
 wanted-append p x whole =
     let two : 2 ≤ length p = long p (omega arith) in
     let more : 2 ≤ length (p ++ x) = omega (arith, length-append p x) in
-    wanted_long (p ++ x) more ∙ ap (λ f. 2 + number_from_digits 256 f) (take-append-le 2 p x two) ∙ sym (wanted_long p two) ∙ sym whole
+    wanted_long (p ++ x) more ∙ ap (λ f. 2 + number_from_digits 256 f) (take-append-le 2 p x two)
+    ∙ sym (wanted_long p two) ∙ sym whole
 
 never_short : (p x : List ℕ) → length p ≡ wanted p → Short (p ++ x) → ⊥
 never_short p x whole short = omega (arith, wanted-append p x whole, length-append p x)
 
-split : {b : List ℕ} (p : List ℕ) (ps : List (List ℕ)) (r : List ℕ) → Cut b (p ∷ ps) r → b ≡ p ++ (flat_map (λ q. q) ps ++ r)
+split : {b : List ℕ} (p : List ℕ) (ps : List (List ℕ)) (r : List ℕ) → Cut b (p ∷ ps) r
+    → b ≡ p ++ (flat_map (λ q. q) ps ++ r)
 split p ps r c = sym c.joins ∙ append_assoc p (flat_map (λ q. q) ps) r
 
 pub cut_once : CutOnce
@@ -30,10 +32,14 @@ cut_once b (p ∷ ps) r [] t c short d short' =
 cut_once b (p ∷ ps) r (q ∷ qs) t c short d short' =
     let e = split p ps r c in
     let f = split q qs t d in
-    let size : length p ≡ length q = sym (wanted-append p _ c.whole.0) ∙ ap wanted (sym e ∙ f) ∙ wanted-append q _ d.whole.0 in
-    let same : p ≡ q = sym (take_at p _ (length p) refl) ∙ ap (take (length p)) (sym e ∙ f) ∙ take_at q _ (length p) (sym size) in
-    let behind : flat_map (λ x. x) ps ++ r ≡ flat_map (λ x. x) qs ++ t = sym (drop_at p _ (length p) refl) ∙ ap (drop (length p)) (sym e ∙ f) ∙ drop_at q _ (length p) (sym size) in
-    let rest = cut_once (flat_map (λ x. x) qs ++ t) ps r qs t (record { joins = behind; whole = c.whole.1 }) short (record { joins = refl; whole = d.whole.1 }) short' in
+    let size : length p ≡ length q =
+    sym (wanted-append p _ c.whole.0) ∙ ap wanted (sym e ∙ f) ∙ wanted-append q _ d.whole.0 in
+    let same : p ≡ q =
+    sym (take_at p _ (length p) refl) ∙ ap (take (length p)) (sym e ∙ f) ∙ take_at q _ (length p) (sym size) in
+    let behind : flat_map (λ x. x) ps ++ r ≡ flat_map (λ x. x) qs ++ t =
+    sym (drop_at p _ (length p) refl) ∙ ap (drop (length p)) (sym e ∙ f) ∙ drop_at q _ (length p) (sym size) in
+    let rest = cut_once (flat_map (λ x. x) qs ++ t) ps r qs t (record { joins = behind; whole = c.whole.1 }) short
+    (record { joins = refl; whole = d.whole.1 }) short' in
     (λ i. same i ∷ rest.0 i, rest.1)
 
 framed_whole : (body : List ℕ) → length body < 2 ^ 16 → length (framed body) ≡ wanted (framed body)

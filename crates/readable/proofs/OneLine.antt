@@ -72,7 +72,8 @@ hex_one b = simp (digit_one (b / 16), digit_one b)
 
 spelt_one : (form : Form) (b : ℕ) → one_line (spelt form b) ≡ true
 spelt_one Text b =
-    cond_both (printable b) (b ∷ []) (codes "\\x" ++ hex_byte b) (λ x. one_line x ≡ true) (λ e. grind (arith, nat_tests))
+    cond_both (printable b) (b ∷ []) (codes "\\x" ++ hex_byte b) (λ x. one_line x ≡ true)
+    (λ e. grind (arith, nat_tests))
     (λ e. hex_one b)
 spelt_one Hex b = hex_one b
 spelt_one HexWord b = hex_one b

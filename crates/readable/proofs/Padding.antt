@@ -26,11 +26,14 @@ last : (xs : List ℕ) (n : ℕ) → 0 < n → n ≤ length xs → take n xs ≡
 last xs n some in' = ap (λ k. take k xs) {x = n} {y = n - 1 + 1} (omega arith) ∙ take_more xs (n - 1) 0 (omega arith)
 
 -- a front that ends in a space, and one that does not
-pub front_space : (xs : List ℕ) (n : ℕ) → 0 < n → n ≤ length xs → get_or xs (n - 1) 0 ≡ 32 → unpadded (take (n - 1) xs) ≡ unpadded (take n xs)
+pub front_space : (xs : List ℕ) (n : ℕ) → 0 < n → n ≤ length xs → get_or xs (n - 1) 0 ≡ 32
+    → unpadded (take (n - 1) xs) ≡ unpadded (take n xs)
 front_space xs n some in' e = simp (last xs n some in', e, unpadded-more)
 
-pub front_solid : (xs : List ℕ) (n : ℕ) → 0 < n → n ≤ length xs → get_or xs (n - 1) 0 ≢ 32 → take (n - 0) xs ≡ unpadded (take n xs)
-front_solid xs n some in' ne = simp (sub-zero, last xs n some in', unpadded_end (take (n - 1) xs) (get_or xs (n - 1) 0) ne)
+pub front_solid : (xs : List ℕ) (n : ℕ) → 0 < n → n ≤ length xs → get_or xs (n - 1) 0 ≢ 32
+    → take (n - 0) xs ≡ unpadded (take n xs)
+front_solid xs n some in' ne =
+    simp (sub-zero, last xs n some in', unpadded_end (take (n - 1) xs) (get_or xs (n - 1) 0) ne)
 
 pub front_none : (xs : List ℕ) (n : ℕ) → n ≤ 0 → take (n - 0) xs ≡ unpadded (take n xs)
 front_none xs n none = let e : n ≡ 0 = omega arith in simp e

@@ -11,7 +11,8 @@ use Rattle.readable.proofs.HexRead.{byte_value}
 use Rattle.readable.proofs.Padding.{padded, under_unpadded}
 
 -- the first byte of two spellings that are alike
-same_first : (a b : Bool) (x y : ℕ) (xs ys : List ℕ) → printable x ≡ a → printable y ≡ b → x < 256 → y < 256 → spelt Text x ++ xs ≡ spelt Text y ++ ys → (x ≡ y) × (xs ≡ ys)
+same_first : (a b : Bool) (x y : ℕ) (xs ys : List ℕ) → printable x ≡ a → printable y ≡ b → x < 256 → y < 256
+    → spelt Text x ++ xs ≡ spelt Text y ++ ys → (x ≡ y) × (xs ≡ ys)
 same_first true true x y xs ys p q u v e = let h = simp (p, q) at e in (cc, cc)
 same_first true false x y xs ys p q u v e =
     let h = simp (p, q) at e in let no' : x ≡ 92 = cc in absurd (grind (arith, nat_tests))

@@ -8,7 +8,10 @@ pub loop-end-init : goal.loop-end-init
 loop-end-init c = search (rules, take_all)
 
 pub loop-end-preserved : goal.loop-end-preserved
-loop-end-preserved c = (omega arith, front_space _ _ c.loop-end-test.true c.loop-end.invariant.0 c.if-text-end-eq32.true ∙ c.loop-end.invariant.1)
+loop-end-preserved c = (
+  omega arith,
+  front_space _ _ c.loop-end-test.true c.loop-end.invariant.0 c.if-text-end-eq32.true ∙ c.loop-end.invariant.1,
+)
 
 pub returns : goal.returns
 returns c =
