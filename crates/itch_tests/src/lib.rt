@@ -1,4 +1,6 @@
 // The messages of the feed against bytes that were written by hand.
+#![tactic(auto)]
+
 #[cfg(test)]
 mod tests {
     use fields::letters::{BookState, Event};

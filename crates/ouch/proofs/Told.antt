@@ -4,7 +4,7 @@ use Rattle.std.specs.Option.{option_map}
 use Rattle.std.specs.Int.Digits.{AllBelowBase}
 use Rattle.fields.proofs.Rows.{picked, kept, mapped_some}
 use Rattle.ouch.specs.Replies.{system_event, accepted, replaced, canceled, executed, rejected}
-use Rattle.ouch.specs.Reply.{reply_laid, reply_bytes, reply_readings, reply_read, addressed_read, reply_length, ReplyFits, RepliesSound, RepliesReturn, RepliesKeep}
+use Rattle.ouch.specs.Reply.{reply_laid, reply_bytes, reply_readings, reply_read, reply_length, ReplyFits, RepliesSound, RepliesReturn, RepliesKeep}
 use Rattle.ouch.specs.declared.reply.Reply.{Reply}
 use Rattle.ouch.specs.declared.reply.Reply.TheVariants as reply
 use Rattle.ouch.proofs.Formats.{system_event_sound, accepted_sound, replaced_sound, canceled_sound, executed_sound, rejected_sound}
