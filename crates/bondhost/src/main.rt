@@ -1,4 +1,6 @@
 // The host as a program: a day file on standard input, Soup packets on standard output.
+#![tactic(auto)]
+
 ghost use Rattle.std.specs.Prelude.{◌≡◌, min, [], IfOk};
 ghost use Rattle.market.specs.Host.{made as engineMade};
 ghost use Rattle.engine.specs.Meaning.{model};

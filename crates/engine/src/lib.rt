@@ -1,4 +1,6 @@
 // The engine: its calls, each as an equation with what it does to what the engine holds.
+#![tactic(auto)]
+
 pub mod begin;
 mod books;
 pub mod calls;

@@ -1,4 +1,6 @@
 // Orders in plain words, above the equations.
+#![tactic(auto)]
+
 ghost use Rattle.law_orders.specs.Statements.{RefusedLeaves, IgnoredLeaves, SilentLeaves, RestsUnmet, AmendsUnmet, AlwaysLeft};
 
 // A refused call leaves everything as it was.

@@ -1,4 +1,6 @@
 // What an account's message does: an order is entered, replaced or canceled.
+#![tactic(auto)]
+
 pub mod answer;
 pub mod cancel;
 pub mod enter;
