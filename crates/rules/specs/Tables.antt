@@ -1,16 +1,13 @@
 -- The loaded tables: what they hold, and how a book or an account is found.
-use Rattle.std.specs.Prelude.{ℕ, Bool, true, false, ◌&&◌, List, [], replicate, ℤ, pos, Option, ◌==◌, slice_index_or, slice_set}
+use Rattle.std.specs.Prelude.{ℕ, Bool, true, false, List, replicate, ℤ, pos, Option, ◌==◌, slice_index_or, slice_set}
 use Rattle.std.specs.Str.{bytes_eq}
 use Rattle.std.specs.Option.{unwrap_or}
-use Rattle.fields.specs.Letters.{state_of}
 use Rattle.fields.specs.declared.letters.BookState.{BookState}
 use Rattle.fields.specs.declared.letters.BookState.TheVariants.{Trading, Suspended}
 use Rattle.rules.specs.declared.tables.Account.{Account}
 use Rattle.rules.specs.declared.tables.Book.{Book}
 use Rattle.rules.specs.declared.tables.BookChange.{BookChange}
 use Rattle.rules.specs.declared.tables.BookChange.TheVariants as change
-use Rattle.rules.specs.declared.tables.Listing.{Listing}
-use Rattle.rules.specs.declared.tables.TickRow.{TickRow}
 use Rattle.rules.specs.Register.{first, adjusted}
 
 -- ---- books, under the code
