@@ -20,6 +20,7 @@ use rules::fault::FileFault;
 use std::alloc::{AllocError, Global};
 use std::io;
 use std::io::{BufReader, BufWriter, ErrorKind, Read, Write};
+use std::process::ExitCode;
 use store::record::NO_RECORD;
 use store::row::Row;
 use store::store::Records;
@@ -51,10 +52,10 @@ enum Ending {
 }
 
 // A fault is told by its packet; only what keeps the program from reading or writing is reported besides.
-fn main(rt: HostRuntime) -> anyhow::Result<()> {
+fn main(rt: HostRuntime) -> anyhow::Result<ExitCode> {
     match run(&rt)? {
-        Ending::Whole => Ok(()),
-        Ending::Fault => Err(anyhow!("the day ended in a fault")),
+        Ending::Whole => Ok(ExitCode::SUCCESS),
+        Ending::Fault => Ok(ExitCode::FAILURE),
     }
 }
 

@@ -5,6 +5,7 @@ use readable::stream::{Stream, Truncated};
 use std::alloc::Global;
 use std::io;
 use std::io::{Read, Write};
+use std::process::ExitCode;
 
 const PIECE: usize = 4096;
 
@@ -31,13 +32,13 @@ fn show<R: Read, W: Write>(
     Ok(stream.truncated())
 }
 
-fn main(rt: HostRuntime) -> io::Result<()> {
+fn main(rt: HostRuntime) -> io::Result<ExitCode> {
     let missing = show(rt.alloc(), &mut rt.stdin(), &mut rt.stdout())?;
     match missing {
-        None => Ok(()),
+        None => Ok(ExitCode::SUCCESS),
         Some(truncated) => {
             println!(rt; "{truncated}")?;
-            Err(io::Error::from(io::ErrorKind::UnexpectedEof))
+            Ok(ExitCode::FAILURE)
         }
     }
 }
