@@ -1,7 +1,7 @@
 -- A stream of packets, as far as its bytes have come.
 use Rattle.std.specs.Prelude.{◌≡◌, ℕ, ◌+◌, ◌^◌, ◌<◌, ◌≤◌, cond, List, [], ◌∷◌, ◌++◌, map, length, take, drop, Some, None, vec_items, codes, decimal, Option, ◌==◌, nat_lt}
 use Rattle.std.specs.Int.Digits.{number_from_digits}
-use Rattle.std.specs.List.{flat_map, AllByRecursion as All}
+use Rattle.std.specs.List.{flat_map, AllByRecursion}
 use Rattle.fields.specs.Be.{be}
 use Rattle.readable.specs.declared.stream.Stream.{Stream}
 use Rattle.readable.specs.declared.stream.Truncated.{Truncated}
@@ -18,7 +18,7 @@ first_packet b = cond (nat_lt (length b) (wanted b)) None (Some (take (wanted b)
 -- The bytes are the packets one after another, each whole, and then the rest.
 pub record Cut (bytes : List ℕ) (packets : List (List ℕ)) (rest : List ℕ) : Type 0 where
   pub joins : flat_map (λ p. p) packets ++ rest ≡ bytes
-  pub whole : All (λ p. length p ≡ wanted p) packets
+  pub whole : AllByRecursion (λ p. length p ≡ wanted p) packets
 
 -- no packet of the rest has come whole
 abbrev pub Short : List ℕ → Type 0
@@ -77,7 +77,7 @@ framed body = be 2 (length body) ++ body
 abbrev pub FramedCut : Type 0
 FramedCut =
     (bodies : List (List ℕ)) →
-    All (λ b. length b < 2 ^ 16) bodies → Cut (flat_map framed bodies) (map framed bodies) []
+    AllByRecursion (λ b. length b < 2 ^ 16) bodies → Cut (flat_map framed bodies) (map framed bodies) []
 
 -- a packet of which only a part has come
 abbrev pub truncation : List ℕ → Option Truncated
