@@ -2,7 +2,7 @@
 #![tactic(auto)]
 
 ghost use Rattle.std.specs.Prelude.{◌≡◌, min, [], IfOk};
-ghost use Rattle.market.specs.Host.{made as engineMade};
+ghost use Rattle.market.specs.Host.{made as engine_made};
 ghost use Rattle.engine.specs.Meaning.{model};
 ghost use Rattle.line.specs.Meaning.{fresh, places};
 ghost use Rattle.line.specs.SoupMeaning.{soup_meaning};
@@ -69,7 +69,7 @@ fn run(rt: &HostRuntime) -> anyhow::Result<Ending> {
 
 // An engine over a row and two Soup lines, with nothing loaded.
 fn new_host(heap: Global) -> anyhow::Result<Host>
-    ensures { IfOk result (λ h. model (λ s. s.records.items) (λ s. s.capacity) soup_meaning h ≡ engineMade 256 (fresh 300 0) (fresh 550 0) 1 1) }
+    ensures { IfOk result (λ h. model (λ s. s.records.items) (λ s. s.capacity) soup_meaning h ≡ engine_made 256 (fresh 300 0) (fresh 550 0) 1 1) }
 {
     let store = new_row(heap, ORDERS)?;
     let feed = new_line(heap, FEED_BYTES)?;

@@ -1,7 +1,7 @@
 -- The law over whole runs: what a listener holds, that no book crosses, and what a second copy changes.
 use Rattle.std.specs.Prelude.{◌≡◌, ℕ, ◌+◌, ◌-◌, ◌*◌, ◌/◌, ◌≤◌, Bool, true, false, cond, ◌&&◌, List, [], ◌∷◌, ◌++◌, map, length, take, drop, IsSomeAnd, Some, Ok, Err, Result, ◌==◌, int_le, slice_index_or}
 use Rattle.std.specs.Option.{unwrap_or}
-use Rattle.std.specs.List.{AllByRecursion as All}
+use Rattle.std.specs.List.{AllByRecursion}
 use Rattle.fields.specs.Letters.{event_byte, state_of}
 use Rattle.fields.specs.Texts.{djgb}
 use Rattle.fields.specs.declared.letters.BookState.TheVariants.{Suspended}
@@ -115,7 +115,7 @@ pub record Joins (d : Day) (s : Snapshot) : Type 0 where
   pub times : Timed (joined s) (onward d s)
 
 abbrev pub AllJoin : Day → Type 0
-AllJoin d = All (Joins d) d.snapshots
+AllJoin d = AllByRecursion (Joins d) d.snapshots
 
 -- ---- after any message of the whole feed no book crosses
 
@@ -130,7 +130,7 @@ abbrev pub crosses : ShownOrder → ShownOrder → Bool
 crosses x y = x.book == y.book && (facing x.side y.side && int_le x.rate y.rate)
 
 abbrev pub Uncrossed : List ShownOrder → Type 0
-Uncrossed xs = All (λ x. All (λ y. crosses x y ≡ false) xs) xs
+Uncrossed xs = AllByRecursion (λ x. AllByRecursion (λ y. crosses x y ≡ false) xs) xs
 
 abbrev pub NeverCrosses : Day → Type 0
 NeverCrosses d = (k : ℕ) → Uncrossed (hears nothing (wire (take k d.feed))).board.orders
@@ -138,7 +138,7 @@ NeverCrosses d = (k : ℕ) → Uncrossed (hears nothing (wire (take k d.feed))).
 -- ---- every run
 
 abbrev pub EveryRun : (Day → Type 0) → Type 0
-EveryRun P = (s : Start) → FitsStart s → (cs : List Call) → All FitsCall cs → P (run (start s) cs)
+EveryRun P = (s : Start) → FitsStart s → (cs : List Call) → AllByRecursion FitsCall cs → P (run (start s) cs)
 
 -- ---- second copies
 
@@ -158,7 +158,7 @@ Copied h t s = ChangesNothing h t s s.answer
 -- before, the message, then between, and the copy, with the same account and bytes, at any time
 abbrev pub CopiesChangeNothing : Type 0
 CopiesChangeNothing =
-    (s : Start) → FitsStart s → (before between : List Call) → All FitsCall before → All FitsCall between →
+    (s : Start) → FitsStart s → (before between : List Call) → AllByRecursion FitsCall before → AllByRecursion FitsCall between →
     (t u account : ℕ) (bytes : List ℕ) → FitsCall (message t account bytes) → FitsCall (message u account bytes) →
     Replied (step (run (start s) before).host (message t account bytes)).answer →
     let h : Host = (run (then (run (start s) before) (message t account bytes)) between).host in

@@ -1,6 +1,6 @@
 -- The order that an account's token finds.
 use Rattle.std.proofs.Common.{◌≡◌, ℕ, zero, suc, ◌+◌, ◌<◌, Bool, true, false, cond, List, [], ◌∷◌, length, Some, None, unwrap_or, sym, refl, ◌∙◌, arith}
-use Rattle.std.specs.List.{remove, slice_get, AllByRecursion as All}
+use Rattle.std.specs.List.{remove, slice_get, AllByRecursion}
 use Rattle.std.proofs.ByRecursion.{All-weaker}
 use Rattle.std.proofs.lemmas.Bool.{and_parts, eqb-true}
 use Rattle.store.specs.Records.{found, found_from, named}
@@ -9,7 +9,7 @@ use Rattle.law_copies.proofs.Keys.{AllApart, Apart}
 
 -- no order has the account's token
 abbrev pub Unnamed : ℕ → ℕ → List Record → Type 0
-Unnamed a t xs = All (λ x. named a t x ≡ false) xs
+Unnamed a t xs = AllByRecursion (λ x. named a t x ≡ false) xs
 
 pub named_parts : (a t : ℕ) (x : Record) → named a t x ≡ true → (x.account ≡ a) × (x.token ≡ t)
 named_parts a t x e = (eqb-true _ _ (and_parts _ _ e).0, eqb-true _ _ (and_parts _ _ e).1)
@@ -59,7 +59,7 @@ module _ (a t : ℕ) where
   found_none i (x ∷ xs) h = rw h.0 (found_none (i + 1) xs h.1)
 
 -- what holds of each order holds of the one at a place
-pub all_at : (P : Record → Type 0) (xs : List Record) (k : ℕ) (d : Record) → k < length xs → All P xs → P (unwrap_or (slice_get xs k) d)
+pub all_at : (P : Record → Type 0) (xs : List Record) (k : ℕ) (d : Record) → k < length xs → AllByRecursion P xs → P (unwrap_or (slice_get xs k) d)
 all_at P [] k d l h = absurd (omega arith)
 all_at P (x ∷ xs) zero d l h = h.0
 all_at P (x ∷ xs) (suc k) d l h = all_at P xs k d (omega arith) h.1

@@ -1,6 +1,6 @@
 -- Orders by account and token: what the edits of a list keep of them.
 use Rattle.std.proofs.Common.{◌≡◌, ℕ, zero, suc, Bool, true, false, cond, ltb, List, [], ◌∷◌, ◌++◌, length, set, unwrap_or, sym, ◌∙◌}
-use Rattle.std.specs.List.{remove, slice_get, AllByRecursion as All}
+use Rattle.std.specs.List.{remove, slice_get, AllByRecursion}
 use Rattle.std.proofs.ByRecursion.{All-append, All-drop, All-push, All-set, All-take, All-weaker}
 use Rattle.store.specs.Records.{appended}
 use Rattle.store.specs.declared.record.Record.{Record}
@@ -19,17 +19,17 @@ Apart x y = Differs x.account x.token y.account y.token
 -- any two orders differ
 abbrev pub AllApart : List Record → Type 0
 AllApart [] = Unit {0}
-AllApart (x ∷ xs) = All (Apart x) xs × AllApart xs
+AllApart (x ∷ xs) = AllByRecursion (Apart x) xs × AllApart xs
 
 -- ys brings no account and token that xs has not
 pub record Thins (xs ys : List Record) : Type 1 where
-  pub all : (P : ℕ → ℕ → Type 0) → All (Of P) xs → All (Of P) ys
+  pub all : (P : ℕ → ℕ → Type 0) → AllByRecursion (Of P) xs → AllByRecursion (Of P) ys
   pub apart : AllApart xs → AllApart ys
 
 -- ys brings at most one order that xs has not, with account a and token t
 pub record Adds (a t : ℕ) (xs ys : List Record) : Type 1 where
-  pub all : (P : ℕ → ℕ → Type 0) → P a t → All (Of P) xs → All (Of P) ys
-  pub apart : All (Of (λ b u. Differs b u a t)) xs → AllApart xs → AllApart ys
+  pub all : (P : ℕ → ℕ → Type 0) → P a t → AllByRecursion (Of P) xs → AllByRecursion (Of P) ys
+  pub apart : AllByRecursion (Of (λ b u. Differs b u a t)) xs → AllApart xs → AllApart ys
 
 pub thins_self : (xs : List Record) → Thins xs xs
 thins_self xs = record { all = λ P h. h; apart = λ p. p }
@@ -46,7 +46,7 @@ adds_after a t xs ys zs f g =
 
 -- ---- an order is removed
 
-pub all_removed : (P : Record → Type 0) (xs : List Record) (k : ℕ) → All P xs → All P (remove xs k)
+pub all_removed : (P : Record → Type 0) (xs : List Record) (k : ℕ) → AllByRecursion P xs → AllByRecursion P (remove xs k)
 all_removed P xs k h = All-append P _ _ (All-take P k xs h) (All-drop P (suc k) xs h)
 
 apart_removed : (xs : List Record) (k : ℕ) → AllApart xs → AllApart (remove xs k)
@@ -64,7 +64,7 @@ module _ (y d : Record) where
   abbrev Same : List Record → ℕ → Type 0
   Same xs k = (y.account ≡ (unwrap_or (slice_get xs k) d).account) × (y.token ≡ (unwrap_or (slice_get xs k) d).token)
 
-  all_same : (P : ℕ → ℕ → Type 0) (xs : List Record) (k : ℕ) → Same xs k → All (Of P) xs → All (Of P) (set xs k y)
+  all_same : (P : ℕ → ℕ → Type 0) (xs : List Record) (k : ℕ) → Same xs k → AllByRecursion (Of P) xs → AllByRecursion (Of P) (set xs k y)
   all_same P [] k e h = tt
   all_same P (x ∷ xs) zero e h = (rw (e.0, e.1) h.0, h.1)
   all_same P (x ∷ xs) (suc k) e h = (h.0, all_same P xs k e h.1)
@@ -79,7 +79,7 @@ module _ (y d : Record) where
 
 -- ---- another order takes a place
 
-apart_set : (y : Record) (xs : List Record) (k : ℕ) → All (λ x. Apart x y) xs → AllApart xs → AllApart (set xs k y)
+apart_set : (y : Record) (xs : List Record) (k : ℕ) → AllByRecursion (λ x. Apart x y) xs → AllApart xs → AllApart (set xs k y)
 apart_set y [] k d p = tt
 apart_set y (x ∷ xs) zero d p = (All-weaker (λ z. Apart z y) (Apart y) (λ z n f g. n (sym f) (sym g)) xs d.1, p.1)
 apart_set y (x ∷ xs) (suc k) d p = (All-set (Apart x) xs k y d.0 p.0, apart_set y xs k d.1 p.1)
@@ -87,7 +87,7 @@ apart_set y (x ∷ xs) (suc k) d p = (All-set (Apart x) xs k y d.0 p.0, apart_se
 pub adds-set : (y : Record) (xs : List Record) (k : ℕ) → Adds y.account y.token xs (set xs k y)
 adds-set y xs k = record { all = λ P p h. All-set (Of P) xs k y p h; apart = apart_set y xs k }
 
-apart_push : (y : Record) (xs : List Record) → All (λ x. Apart x y) xs → AllApart xs → AllApart (xs ++ y ∷ [])
+apart_push : (y : Record) (xs : List Record) → AllByRecursion (λ x. Apart x y) xs → AllApart xs → AllApart (xs ++ y ∷ [])
 apart_push y [] d p = (tt, tt)
 apart_push y (x ∷ xs) d p = (All-push (Apart x) xs y p.0 d.0, apart_push y xs d.1 p.1)
 

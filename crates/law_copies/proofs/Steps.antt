@@ -1,6 +1,6 @@
 -- What every call, and so every run, does to accounts and orders.
 use Rattle.std.proofs.Common.{◌≡◌, ℕ, zero, suc, ◌<◌, Bool, true, false, cond, List, [], ◌∷◌, ◌++◌, length, Some, None, Ok, Err, Option, Result, refl, ◌∙◌, arith}
-use Rattle.std.specs.List.{AllByRecursion as All}
+use Rattle.std.specs.List.{AllByRecursion}
 use Rattle.std.proofs.ByRecursion.{All-append, All-map}
 use Rattle.std.proofs.lemmas.Bool.{leb-false}
 use Rattle.fields.specs.Letters.{event_of}
@@ -33,26 +33,26 @@ use Rattle.law_copies.proofs.Tokens.{goes_then, goes_thins, loaded_last}
 abbrev pub Plain : Change → Type 0
 Plain c = (h : Host) (t : ℕ) → ((published h t c).accounts ≡ h.accounts) × ((published h t c).orders ≡ h.orders)
 
-pub plain_all : (h : Host) (t : ℕ) (cs : List Change) → All Plain cs → ((published_all h t cs).accounts ≡ h.accounts) × ((published_all h t cs).orders ≡ h.orders)
+pub plain_all : (h : Host) (t : ℕ) (cs : List Change) → AllByRecursion Plain cs → ((published_all h t cs).accounts ≡ h.accounts) × ((published_all h t cs).orders ≡ h.orders)
 plain_all h t [] p = (refl, refl)
 plain_all h t (c ∷ cs) p =
     let f = p.0 h t in
     let g = plain_all (published h t c) t cs p.1 in
     (g.0 ∙ f.0, g.1 ∙ f.1)
 
-each : {X : Type 0} (P : X → Type 0) → ((x : X) → P x) → (xs : List X) → All P xs
+each : {X : Type 0} (P : X → Type 0) → ((x : X) → P x) → (xs : List X) → AllByRecursion P xs
 each P f [] = tt
 each P f (x ∷ xs) = (f x, each P f xs)
 
-plain_trading : (bs : List Book) → All Plain (trading_only bs)
+plain_trading : (bs : List Book) → AllByRecursion Plain (trading_only bs)
 plain_trading [] = tt
 plain_trading (b ∷ bs) = by (suspended b) (plain_trading bs)
   where
-    by : (s : Bool) → All Plain (trading_only bs) → All Plain (cond s (trading_only bs) (change.State b.code Trading ∷ trading_only bs))
+    by : (s : Bool) → AllByRecursion Plain (trading_only bs) → AllByRecursion Plain (cond s (trading_only bs) (change.State b.code Trading ∷ trading_only bs))
     by true r = r
     by false r = ((λ h t. (refl, refl)), r)
 
-pub plain-announcement : (h : Host) → All Plain (announcement h)
+pub plain-announcement : (h : Host) → AllByRecursion Plain (announcement h)
 plain-announcement h = (
   (λ h t. (refl, refl)),
   All-append Plain _ _ (All-map Plain change.Tick h.rows (each _ (λ r h t. (refl, refl)) h.rows))

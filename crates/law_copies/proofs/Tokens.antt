@@ -1,6 +1,6 @@
 -- Last tokens: how they grow, and what orders may be there beside them.
 use Rattle.std.proofs.Common.{◌≡◌, ℕ, zero, suc, ◌<◌, ◌≤◌, false, ◌&&◌, eqb, List, [], ◌∷◌, ◌++◌, length, refl, ap, inl, inr, arith}
-use Rattle.std.specs.List.{AllByRecursion as All}
+use Rattle.std.specs.List.{AllByRecursion}
 use Rattle.std.proofs.ByRecursion.{All-weaker}
 use Rattle.std.proofs.lemmas.List.{get_or-set_same, get_or-set_other}
 use Rattle.std.proofs.lemmas.Bool.{and_left, and_right, cases_eq, ne_eqb}
@@ -43,7 +43,7 @@ Past us a t = t ≤ last_token a us
 
 -- no live order has a token that its account has yet to use, and any two differ in account or token
 pub record Sound (us : List Account) (xs : List Record) : Type 0 where
-  pub past : All (Of (Past us)) xs
+  pub past : AllByRecursion (Of (Past us)) xs
   pub apart : AllApart xs
 
 -- from accounts us and orders xs to vs and ys: an order that is new has a token above its account's last
@@ -59,7 +59,7 @@ goes_then us vs ws xs ys zs f g = record {
   unnamed = λ a t p n. let x = f.grow a in g.unnamed a t (omega arith) (f.unnamed a t p n);
 }
 
-past_later : (us vs : List Account) (xs : List Record) → Grow us vs → All (Of (Past us)) xs → All (Of (Past vs)) xs
+past_later : (us vs : List Account) (xs : List Record) → Grow us vs → AllByRecursion (Of (Past us)) xs → AllByRecursion (Of (Past vs)) xs
 past_later us vs xs g h = All-weaker _ _ (λ x p. let y = g x.account in omega arith) xs h
 
 pub goes_thins : (us vs : List Account) (xs ys : List Record) → Grow us vs → Thins xs ys → Goes us xs vs ys

@@ -1,6 +1,6 @@
 -- What rests of a newcomer, and what is amended in its book, meets no order.
 use Rattle.std.proofs.Common.{◌≡◌, ℕ, zero, suc, ◌+◌, ◌≤◌, Bool, true, false, cond, eqb, ◌⊎◌, List, [], ◌∷◌, length, ℤ, Some, None, Option, refl, ap, inl, inr, arith}
-use Rattle.std.specs.List.{slice_get, AllByRecursion as All}
+use Rattle.std.specs.List.{slice_get, AllByRecursion}
 use Rattle.std.proofs.lemmas.Int.{ints}
 use Rattle.std.proofs.lemmas.Bool.{and_left, and_right, cases_Bool, eqb-true}
 use Rattle.fields.specs.declared.letters.Side.{Side}
@@ -14,7 +14,7 @@ use Rattle.matching.proofs.Walks.{gone_or_filled, met_within, next, rest, walk-f
 use Rattle.law_copies.proofs.Steps.{untested}
 use Rattle.law_orders.specs.Statements.{AmendsUnmet, RestsUnmet, Unmet}
 
-all_from_nth : {X : Type 0} (P : X → Type 0) (xs : List X) → ((k : ℕ) (x : X) → slice_get xs k ≡ Some x → P x) → All P xs
+all_from_nth : {X : Type 0} (P : X → Type 0) (xs : List X) → ((k : ℕ) (x : X) → slice_get xs k ≡ Some x → P x) → AllByRecursion P xs
 all_from_nth P [] f = tt
 all_from_nth P (x ∷ xs) f = (f 0 x refl, all_from_nth P xs (λ k y e. f (suc k) y e))
 

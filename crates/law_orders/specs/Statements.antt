@@ -1,6 +1,6 @@
 -- Orders in plain words: what a refused call, an ignored message and a match leave behind, and what every run keeps.
 use Rattle.std.specs.Prelude.{◌≡◌, ℕ, ◌≤◌, false, ◌⊎◌, List, Ok, Err, ◌≢◌}
-use Rattle.std.specs.List.{AllByRecursion as All}
+use Rattle.std.specs.List.{AllByRecursion}
 use Rattle.ouch.specs.Inbound.{Asked, enter, replace, cancel}
 use Rattle.store.specs.declared.record.Record.{Record}
 use Rattle.rules.specs.Tables.{last_token}
@@ -24,7 +24,7 @@ Passed h account token = token ≤ last_token account h.accounts
 
 -- no live order of the account has the token
 abbrev pub NotLive : Host → ℕ → ℕ → Type 0
-NotLive h account token = All (λ (x : Record). x.account ≡ account → x.token ≢ token) h.orders
+NotLive h account token = AllByRecursion (λ (x : Record). x.account ≡ account → x.token ≢ token) h.orders
 
 abbrev pub Ignored : Host → ℕ → Asked → Type 0
 Ignored h account (enter m) = Passed h account m.token
@@ -44,7 +44,7 @@ SilentLeaves =
 
 -- it meets none of the orders
 abbrev pub Unmet : Record → List Record → Type 0
-Unmet n xs = All (λ x. is_met n x ≡ false) xs
+Unmet n xs = AllByRecursion (λ x. is_met n x ≡ false) xs
 
 -- where something is left of it after all executions, it meets no order that is still there
 abbrev pub RestsUnmet : Type 0
@@ -52,7 +52,7 @@ RestsUnmet = (h : Host) (t : ℕ) (n : Record) → 1 ≤ (matched h t n).newcome
 
 -- something is left of every order
 abbrev pub AllLeft : List Record → Type 0
-AllLeft xs = All (λ (x : Record). 1 ≤ x.left) xs
+AllLeft xs = AllByRecursion (λ (x : Record). 1 ≤ x.left) xs
 
 -- a replaced order is amended only where the quantity that it meets is 0, and then it meets no order
 abbrev pub AmendsUnmet : Type 0

@@ -1,7 +1,7 @@
 -- Hexadecimal digits, read back.
 use Rattle.std.proofs.Common.{◌≡◌, ℕ, ◌/◌, ◌%◌, ◌<◌, true, not, ◌&&◌, eqb, leb, List, [], ◌∷◌, ◌++◌, take, drop, codes, filter, sym, refl, ap, ◌∙◌, arith}
 use Rattle.std.specs.Str.Parse.{digits_value}
-use Rattle.std.specs.Char.{digit_value as digitValue}
+use Rattle.std.specs.Char.{digit_value}
 use Rattle.std.specs.Int.Digits.{AllBelowBase}
 use Rattle.std.specs.List.{flat_map}
 use Rattle.std.proofs.lemmas.List.FromFn.{get_or-range_with_len}
@@ -24,14 +24,14 @@ digit_seen n =
     All-get_or (λ c. (leb 33 c && leb c 126) ≡ true) (codes "0123456789ABCDEF") (n % 16) 0 (below n)
     (kept_by_passes (λ c. leb 33 c && leb c 126) (codes "0123456789ABCDEF"))
 
-pub digit_value : (n : ℕ) → digitValue (hex_digit n) ≡ n % 16
-digit_value n =
-    sym (get_or-map digitValue (codes "0123456789ABCDEF") (n % 16) 0 0 (below n))
+pub digit_value_lem : (n : ℕ) → digit_value (hex_digit n) ≡ n % 16
+digit_value_lem n =
+    sym (get_or-map digit_value (codes "0123456789ABCDEF") (n % 16) 0 0 (below n))
     ∙ get_or-range_with_len 0 16 (n % 16) 0 (below n)
     ∙ omega arith
 
 pub byte_value : (b : ℕ) → b < 256 → digits_value 16 (hex_byte b) ≡ b
-byte_value b h = omega (arith, digit_value (b / 16), digit_value b)
+byte_value b h = omega (arith, digit_value_lem (b / 16), digit_value_lem b)
 
 paired_bytes : (bs : List ℕ) → AllBelowBase 256 bs → paired (flat_map hex_byte bs) ≡ bs
 paired_bytes [] u = refl
