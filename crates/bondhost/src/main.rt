@@ -3,7 +3,6 @@
 
 ghost use Rattle.std.specs.Prelude.{◌≡◌, min, [], IfOk};
 ghost use Rattle.market.specs.Host.{made as engine_made};
-ghost use Rattle.engine.specs.Meaning.{model};
 ghost use Rattle.line.specs.Meaning.{fresh, places};
 ghost use Rattle.line.specs.SoupMeaning.{soup_meaning};
 
@@ -42,24 +41,8 @@ const FIRST_NUMBER: u64 = 1;
 
 type Host = Engine<Row, Soup>;
 
-// How a day ended.
-#[derive(Clone, Copy)]
-enum Ending {
-    // with its last record
-    Whole,
-    // with a record that was refused
-    Fault,
-}
-
 // A fault is told by its packet; only what keeps the program from reading or writing is reported besides.
 fn main(rt: HostRuntime) -> anyhow::Result<ExitCode> {
-    match run(&rt)? {
-        Ending::Whole => Ok(ExitCode::SUCCESS),
-        Ending::Fault => Ok(ExitCode::FAILURE),
-    }
-}
-
-fn run(rt: &HostRuntime) -> anyhow::Result<Ending> {
     let heap = rt.alloc();
     let mut host = new_host(heap)?;
     let mut input = BufReader::new(heap, rt.stdin())?;
@@ -69,14 +52,14 @@ fn run(rt: &HostRuntime) -> anyhow::Result<Ending> {
 
 // An engine over a row and two Soup lines, with nothing loaded.
 fn new_host(heap: Global) -> anyhow::Result<Host>
-    ensures { IfOk result (λ h. model (λ s. s.records.items) (λ s. s.capacity) soup_meaning h ≡ engine_made 256 (fresh 300 0) (fresh 550 0) 1 1) }
+    ensures { IfOk result (λ h. h.market.host ≡ engine_made 256 (fresh 300 0) (fresh 550 0) 1 1) }
 {
     let store = new_row(heap, ORDERS)?;
     let feed = new_line(heap, FEED_BYTES)?;
     let replies = new_line(heap, REPLY_BYTES)?;
-    if check_parts(&store, &feed, &replies, FIRST_NUMBER, FIRST_NUMBER).is_err() {
-        return Err(anyhow!("the engine's parts do not fit"));
-    }
+    check_parts(&store, &feed, &replies, FIRST_NUMBER, FIRST_NUMBER).map_err(|_| anyhow!(
+        "the engine's parts do not fit"
+    ))?;
     Ok(Engine::new(store, feed, replies, FIRST_NUMBER, FIRST_NUMBER))
 }
 
@@ -94,13 +77,14 @@ fn new_line(heap: Global, bytes: usize) -> Result<Soup, AllocError>
     Ok(Soup::new(vec![in heap; 0u8; bytes]?, 0))
 }
 
-// The records in turn, to the end of the input or to the first that is refused.
+// The records in turn, to the end of the input or to the first that is refused. The loop has a bound, since each one
+// must be proved to end; no input is so long.
 fn play_day<R: Read, W: Write + Drop>(
     heap: Global,
     host: &mut Host,
     input: &mut BufReader<R>,
     output: &mut BufWriter<W>,
-) -> anyhow::Result<Ending> {
+) -> anyhow::Result<ExitCode> {
     let mut record = Vec::new(heap);
     let mut packets = vec![in heap; 0u8; FEED_BYTES + REPLY_BYTES]?;
     let mut at = 0u64;
@@ -108,7 +92,7 @@ fn play_day<R: Read, W: Write + Drop>(
         read_unit::<DayFile, R, W>(input, output, &mut record)?;
         if record.is_empty() {
             output.flush()?;
-            return Ok(Ending::Whole);
+            return Ok(ExitCode::SUCCESS);
         }
         match play_record(host, record.as_slice(), packets.as_mut_slice()) {
             Ok((fed, replied)) => write_packets(
@@ -120,18 +104,18 @@ fn play_day<R: Read, W: Write + Drop>(
         }
         at = at.saturating_add(record.len() as u64);
     }
-    Ok(Ending::Whole)
+    Ok(ExitCode::SUCCESS)
 }
 
 // The first `count` bytes of the packets.
 fn write_packets<W: Write>(output: &mut W, packets: &[u8], count: usize) -> io::Result<()> {
-    if count > packets.len() {
-        return Err(io::Error::new(
+    let filled = packets.get(..count).ok_or_else(|| {
+        io::Error::new(
             ErrorKind::OutOfMemory,
             "the packets do not fit their buffer",
-        ));
-    }
-    output.write_all(&packets[0..count])
+        )
+    })?;
+    output.write_all(filled)
 }
 
 // The fault's packet is the last thing that is written.
@@ -139,9 +123,9 @@ fn end_in_fault<W: Write + Drop>(
     output: &mut BufWriter<W>,
     fault: FileFault,
     at: u64,
-) -> anyhow::Result<Ending> {
+) -> anyhow::Result<ExitCode> {
     let packet = fault_packet(fault, at);
     output.write_all(packet.bytes())?;
     output.flush()?;
-    Ok(Ending::Fault)
+    Ok(ExitCode::FAILURE)
 }

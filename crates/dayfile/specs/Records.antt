@@ -2,6 +2,7 @@
 -- at byte 3 and lie one behind the other, so that its length follows from them.
 use Rattle.std.specs.Prelude.{ℕ, ◌+◌, cond, List, [], ◌∷◌, length, take, drop, Some, None, Ok, Err, Option, Result, ◌==◌, nat_lt, slice_index}
 use Rattle.std.specs.Int.Digits.{number_from_digits}
+use Rattle.std.specs.Option.{ok_or}
 use Rattle.fields.specs.Layout.{Kind, byte, uint, int, text, From, sizes, read_at, apply, letter_of}
 use Rattle.rules.specs.declared.fault.FileFault.{FileFault}
 use Rattle.rules.specs.declared.fault.FileFault.TheVariants.{Malformed, Truncated}
@@ -27,6 +28,10 @@ tags = tag.Row ∷ tag.Book ∷ tag.Account ∷ tag.Begin ∷ tag.Event ∷ tag.
 
 abbrev pub tag_of : ℕ → Option Tag
 tag_of = letter_of tag_byte tags
+
+-- the tag of the record that begins with these bytes
+abbrev pub first_tag : List ℕ → Result Tag FileFault
+first_tag b = cond (length b == 0) (Err Truncated) (ok_or (tag_of (slice_index b 0)) Malformed)
 
 -- a tick row, 12 bytes: table, size, start
 -- a book, 37 bytes: code, ISIN, lot, tick table, upper and lower yield, state, reference yield

@@ -1,9 +1,11 @@
 // A record of the day file, read from its bytes.
 ghost use Rattle.std.specs.Prelude.{◌≡◌, ◌+◌, ◌≤◌, length};
-ghost use Rattle.dayfile.specs.Records.{header, tag_of, value_length, length_read, value_read, wanted, record_read};
+ghost use Rattle.std.specs.Option.{ok_or};
+ghost use Rattle.rules.specs.declared.fault.FileFault.TheVariants.{Malformed};
+ghost use Rattle.dayfile.specs.Records.{header, tag_of, first_tag, value_length, length_read, value_read, wanted, record_read};
 ghost use Rattle.dayfile.specs.Framing.{Framed, RecordsSound};
 
-use fields::reading::{byte_at, i32_at, text_at, u16_at, u32_at, u64_at};
+use fields::field::at;
 use rules::fault::FileFault;
 use rules::tables::{Listing, TickRow};
 
@@ -26,36 +28,46 @@ pub enum Command {
     Row(TickRow),
     Book(Listing),
     Account([u8; 12]),
-    Begin(u64),
-    // a letter, at a time
-    Event(u64, u8),
-    // a book's state, as a letter, at a time
-    State(u64, u32, u8),
-    // a book's reference yield, at a time
-    Reference(u64, u32, i32),
-    // an account's number, at a time
-    Drop(u64, u8),
+    Begin { time: u64 },
+    Event { time: u64, letter: u8 },
+    // a book's state, as a letter
+    State { time: u64, code: u32, letter: u8 },
+    // a book's reference yield
+    Reference { time: u64, code: u32, rate: i32 },
+    // an account's orders, by its number
+    Drop { time: u64, account: u8 },
 }
 
 // The bytes of tag and length, before the value.
 const HEADER: usize = 3;
 
-impl Tag {
-    // The tag that a byte is, where it is one.
-    pub fn read(b: u8) -> Option<Tag>
-        ensures { result ≡ tag_of b }
-    {
+impl TryFrom<u8> for Tag {
+    type Error = FileFault;
+
+    ghost try_from_gives = { λ b r. r ≡ ok_or (tag_of b) Malformed };
+
+    fn try_from(b: u8) -> Result<Tag, FileFault> {
         match b {
-            1 => Some(Tag::Row),
-            2 => Some(Tag::Book),
-            3 => Some(Tag::Account),
-            4 => Some(Tag::Begin),
-            6 => Some(Tag::Event),
-            7 => Some(Tag::State),
-            8 => Some(Tag::Reference),
-            10 => Some(Tag::Drop),
-            _ => None,
+            1 => Ok(Tag::Row),
+            2 => Ok(Tag::Book),
+            3 => Ok(Tag::Account),
+            4 => Ok(Tag::Begin),
+            6 => Ok(Tag::Event),
+            7 => Ok(Tag::State),
+            8 => Ok(Tag::Reference),
+            10 => Ok(Tag::Drop),
+            _ => Err(FileFault::Malformed),
         }
+    }
+}
+
+impl Tag {
+    // The tag of the record that begins with these bytes.
+    fn read(bytes: &[u8]) -> Result<Tag, FileFault>
+        ensures { result ≡ first_tag bytes.now }
+    {
+        let first = bytes.first().ok_or(FileFault::Truncated)?;
+        Tag::try_from(*first)
     }
 
     // The bytes of its value.
@@ -81,7 +93,7 @@ impl Tag {
         if bytes.len() < HEADER {
             return Err(FileFault::Truncated);
         }
-        let stated = usize::from(u16_at(bytes, 1));
+        let stated = usize::from(at::<u16>(bytes, 1));
         if stated != self.length() {
             return Err(FileFault::Malformed);
         }
@@ -95,45 +107,54 @@ impl Tag {
     {
         match self {
             Tag::Row => Command::Row(TickRow {
-                table: u32_at(bytes, 3),
-                size: u32_at(bytes, 7),
-                start: i32_at(bytes, 11),
+                table: at(bytes, 3),
+                size: at(bytes, 7),
+                start: at(bytes, 11),
             }),
             Tag::Book => Command::Book(Listing {
-                code: u32_at(bytes, 3),
-                isin: text_at::<12>(bytes, 7),
-                lot: u32_at(bytes, 19),
-                table: u32_at(bytes, 23),
-                upper: i32_at(bytes, 27),
-                lower: i32_at(bytes, 31),
-                state: byte_at(bytes, 35),
-                reference: i32_at(bytes, 36),
+                code: at(bytes, 3),
+                isin: at(bytes, 7),
+                lot: at(bytes, 19),
+                table: at(bytes, 23),
+                upper: at(bytes, 27),
+                lower: at(bytes, 31),
+                state: at(bytes, 35),
+                reference: at(bytes, 36),
             }),
-            Tag::Account => Command::Account(text_at::<12>(bytes, 3)),
-            Tag::Begin => Command::Begin(u64_at(bytes, 3)),
-            Tag::Event => Command::Event(u64_at(bytes, 3), byte_at(bytes, 11)),
-            Tag::State => Command::State(u64_at(bytes, 3), u32_at(bytes, 11), byte_at(bytes, 15)),
-            Tag::Reference => Command::Reference(
-                u64_at(bytes, 3),
-                u32_at(bytes, 11),
-                i32_at(bytes, 15),
-            ),
-            Tag::Drop => Command::Drop(u64_at(bytes, 3), byte_at(bytes, 11)),
+            Tag::Account => Command::Account(at(bytes, 3)),
+            Tag::Begin => Command::Begin { time: at(bytes, 3) },
+            Tag::Event => Command::Event {
+                time: at(bytes, 3),
+                letter: at(bytes, 11),
+            },
+            Tag::State => Command::State {
+                time: at(bytes, 3),
+                code: at(bytes, 11),
+                letter: at(bytes, 15),
+            },
+            Tag::Reference => Command::Reference {
+                time: at(bytes, 3),
+                code: at(bytes, 11),
+                rate: at(bytes, 15),
+            },
+            Tag::Drop => Command::Drop {
+                time: at(bytes, 3),
+                account: at(bytes, 11),
+            },
         }
     }
 }
 
 // How many bytes the record has that begins with these bytes, as far as they tell.
+#[tactic(auto, using(crate::specs::FramingLemmas::framed), unfolding(crate::specs::Records::wanted))]
 pub fn wanted(bytes: &[u8]) -> usize
     ensures value { result ≡ wanted bytes.now }
     ensures framed { Framed bytes.now }
 {
-    if bytes.is_empty() {
-        return 1;
-    }
-    let Some(tag) = Tag::read(bytes[0]) else {
+    let Ok(tag) = Tag::read(bytes) else {
         return 1;
     };
+    // The two cases of the definition, side by side.
     match tag.length_read(bytes) {
         Ok(length) => HEADER + length,
         Err(_) => HEADER,
@@ -142,15 +163,11 @@ pub fn wanted(bytes: &[u8]) -> usize
 
 impl Command {
     // What the first record of the bytes asks, or why it is refused.
+    #[tactic(auto, unfolding(crate::specs::Records::record_read))]
     pub fn read(bytes: &[u8]) -> Result<Command, FileFault>
         ensures { result ≡ record_read bytes.now }
     {
-        if bytes.is_empty() {
-            return Err(FileFault::Truncated);
-        }
-        let Some(tag) = Tag::read(bytes[0]) else {
-            return Err(FileFault::Malformed);
-        };
+        let tag = Tag::read(bytes)?;
         let length = tag.length_read(bytes)?;
         if bytes.len() < HEADER + length {
             return Err(FileFault::Truncated);
@@ -160,8 +177,6 @@ impl Command {
 }
 
 // The records have the lengths stated, and are read back from their bytes.
-pub fn records_stand() -> u8
+pub fn records_stand()
     ensures { RecordsSound }
-{
-    0
-}
+{}

@@ -1,7 +1,5 @@
 // One turn of the program.
 ghost use Rattle.std.specs.Prelude.{◌≡◌, length};
-ghost use Rattle.engine.specs.Meaning.{model};
-ghost use Rattle.line.specs.SoupMeaning.{soup_meaning};
 ghost use Rattle.dayfile.specs.Playing.{played, record_played};
 
 use crate::taking::take_record;
@@ -19,7 +17,7 @@ pub fn play_record<S: Store>(
     bytes: &[u8],
     out: &mut [u8],
 ) -> Result<(usize, usize), FileFault>
-    ensures { played result (model S.Records.list S.Records.room soup_meaning engine.new) out.new ≡ record_played (model S.Records.list S.Records.room soup_meaning engine.old) bytes.now out.old }
+    ensures { played result engine.new.market.host out.new ≡ record_played engine.old.market.host bytes.now out.old }
 {
     take_record(engine, bytes)?;
     let lengths = engine.copy_out(out);

@@ -15,11 +15,11 @@ pub fn apply<E: Exchange>(exchange: &mut E, command: Command) -> Result<(u64, u6
         Command::Row(row) => exchange.load_row(row),
         Command::Book(book) => exchange.load_book(book),
         Command::Account(name) => exchange.load_account(name),
-        Command::Begin(time) => exchange.begin(time),
-        Command::Event(time, letter) => exchange.event(time, letter),
-        Command::State(time, code, letter) => exchange.state(time, code, letter),
-        Command::Reference(time, code, rate) => exchange.reference(time, code, rate),
-        Command::Drop(time, account) => exchange.drop_account(time, account),
+        Command::Begin { time } => exchange.begin(time),
+        Command::Event { time, letter } => exchange.event(time, letter),
+        Command::State { time, code, letter } => exchange.state(time, code, letter),
+        Command::Reference { time, code, rate } => exchange.reference(time, code, rate),
+        Command::Drop { time, account } => exchange.drop_account(time, account),
     }
 }
 

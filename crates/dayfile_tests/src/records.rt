@@ -6,11 +6,11 @@ use rules::fault::{Fault, FileFault};
 
 const BEGIN: [u8; 11] = [4, 0, 8, 0, 0, 0, 0, 0, 0, 1, 2];
 
-// The number of the fault, 0 where there is none.
+// The number of the fault, 0 where there is none, so that a table holds numbers alone.
 fn number(bytes: &[u8]) -> u8 {
     match Command::read(bytes) {
         Ok(_) => 0,
-        Err(fault) => fault.number(),
+        Err(fault) => u8::from(fault),
     }
 }
 

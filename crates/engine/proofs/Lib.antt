@@ -1,4 +1,3 @@
 pub mod Copies
 pub mod Decided
-pub mod Parts
 pub mod Sweeps

@@ -51,6 +51,15 @@ abbrev pub decided : Host → Option Fault → Host → Outcome
 decided h (Some f) after = outcome (Err f) h
 decided h None after = outcome (Ok (more h.feed after.feed, more h.replies after.replies)) after
 
+-- a value, unless there is a reason to refuse
+abbrev pub unless : {X : Type 0} → Option Fault → X → Result X Fault
+unless (Some f) x = Err f
+unless None x = Ok x
+
+-- what a test of a call answers
+abbrev pub refused_if : Bool → Fault → Result (Unit {0}) Fault
+refused_if applies f = cond applies (Err f) (Ok tt)
+
 -- ---- the tests that several calls share
 
 -- a day has 86,400 seconds

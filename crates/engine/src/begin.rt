@@ -1,49 +1,32 @@
 // Begin: the feed tells what is loaded, and the day's messages start.
-ghost use Rattle.std.specs.Prelude.{◌≡◌, None};
-ghost use Rattle.engine.specs.Calls.{outcome, begin, begin_fault, begin_done};
-ghost use Rattle.engine.specs.Meaning.{model};
+ghost use Rattle.std.specs.Prelude.{◌≡◌};
+ghost use Rattle.engine.specs.Calls.{unless, begin_fault, begin_done};
 
+use crate::checks::refuse_if;
 use crate::engine::Engine;
 use line::line::Line;
-use market::time::DAY_NANOS;
+use market::time::Time;
 use rules::fault::Fault;
 use store::store::Store;
 
 impl<S: Store, L: Line> Engine<S, L> {
-    pub fn begin(&mut self, time: u64) -> Result<(u64, u64), Fault>
-        ensures { outcome result (model S.Records.list S.Records.room L.Line.meaning self.new) ≡ begin (model S.Records.list S.Records.room L.Line.meaning self.old) time }
+    pub(crate) fn check_begin(&self, time: u64) -> Result<Time, Fault>
+        ensures { result ≡ unless (begin_fault self.now.market.host time) time }
     {
-        if let Some(fault) = self.begin_fault(time) {
-            return Err(fault);
-        }
-        let before = self.market.waiting();
-        self.run_begin(time);
-        Ok(self.market.added(before))
-    }
-
-    fn begin_fault(&self, time: u64) -> Option<Fault>
-        ensures { result ≡ begin_fault (model S.Records.list S.Records.room L.Line.meaning self.now) time }
-    {
-        if time >= DAY_NANOS {
-            Some(Fault::Time)
-        } else if time < self.market.clock {
-            Some(Fault::Clock)
-        } else if !self.market.phase.is_loading() {
-            Some(Fault::Phase)
-        } else if self.market.feed.free() < self.market.announcement_places() {
-            Some(Fault::FeedPlaces)
-        } else {
-            None
-        }
+        let time = Time::try_from(time)?;
+        self.check_clock(time)?;
+        refuse_if(!self.market.phase.is_loading(), Fault::Phase)?;
+        let needed = self.market.announcement_places();
+        refuse_if(self.market.feed.free() < needed, Fault::FeedPlaces)?;
+        Ok(time)
     }
 
     // Does a begin that nothing refuses.
-    fn run_begin(&mut self, time: u64)
-        requires { begin_fault (model S.Records.list S.Records.room L.Line.meaning self.old) time ≡ None }
-        ensures { model S.Records.list S.Records.room L.Line.meaning self.new ≡ begin_done (model S.Records.list S.Records.room L.Line.meaning self.old) time }
+    pub(crate) fn run_begin(&mut self, time: Time)
+        ensures { self.new.market.host ≡ begin_done self.old.market.host time }
     {
         let changes = self.market.announcement();
-        self.market.clock = time;
+        self.market.clock = u64::from(time);
         self.market.publish_all(time, changes.as_slice());
     }
 }

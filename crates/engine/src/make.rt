@@ -1,7 +1,6 @@
 // An engine is made of a store and two lines.
 ghost use Rattle.std.specs.Prelude.{◌≡◌, Ok};
 ghost use Rattle.market.specs.Host.{fresh_line, first_number, parts_answer, made};
-ghost use Rattle.engine.specs.Meaning.{model};
 
 use crate::engine::Engine;
 use line::line::Line;
@@ -44,14 +43,14 @@ fn is_fresh<L: Line>(line: &L) -> bool
 fn is_first(number: u64) -> bool
     ensures { result ≡ first_number number }
 {
-    1 <= number && number <= GREATEST_NUMBER
+    (1..=GREATEST_NUMBER).contains(&number)
 }
 
 impl<S: Store, L: Line> Engine<S, L> {
     // An engine with nothing loaded.
     pub fn new(store: S, feed: L, replies: L, first_order: u64, first_match: u64) -> Self
         requires { parts_answer (S.Records.list store) (L.Line.meaning feed) (L.Line.meaning replies) first_order first_match ≡ Ok tt }
-        ensures { model S.Records.list S.Records.room L.Line.meaning result ≡ made (S.Records.room store) (L.Line.meaning feed) (L.Line.meaning replies) first_order first_match }
+        ensures { result.market.host ≡ made (S.Records.room store) (L.Line.meaning feed) (L.Line.meaning replies) first_order first_match }
     {
         Engine {
             market: Market {

@@ -10,8 +10,8 @@ impl<S: Store, L: Line> Engine<S, L> {
     // The feed's filled front and then the replies' into the caller's bytes, as far as those reach; answers the length
     // of each.
     pub fn copy_out(&self, out: &mut [u8]) -> (usize, usize)
-        ensures answer { result ≡ (length (L.Line.layout self.now.market.feed (L.Line.meaning self.now.market.feed)), length (L.Line.layout self.now.market.replies (L.Line.meaning self.now.market.replies))) }
-        ensures after { out.new ≡ over (L.Line.layout self.now.market.feed (L.Line.meaning self.now.market.feed) ++ L.Line.layout self.now.market.replies (L.Line.meaning self.now.market.replies)) out.old }
+        ensures answer { result ≡ (length (L.Line.layout self.now.market.feed self.now.market.host.feed), length (L.Line.layout self.now.market.replies self.now.market.host.replies)) }
+        ensures after { out.new ≡ over (L.Line.layout self.now.market.feed self.now.market.host.feed ++ L.Line.layout self.now.market.replies self.now.market.host.replies) out.old }
     {
         let fed = self.market.feed.copy_out(out);
         let start = fed.min(out.len());

@@ -6,7 +6,7 @@ ghost use Rattle.std.specs.Prelude.{◌≡◌, ℕ, ◌+◌, ◌≤◌, List, �
 ghost use Rattle.framing.specs.Unit.{Reached, Added};
 
 use std::io;
-use std::io::{BufRead, BufReader, BufWriter, ErrorKind, Read, Write};
+use std::io::{BufRead, BufReader, BufWriter, Read, Write};
 
 pub trait Framed {
     // How many bytes a unit has that begins with these bytes, as far as they tell.
@@ -19,7 +19,7 @@ pub trait Framed {
     ghost grows: { (front more : List ℕ) → length front + length more ≤ size front → size front ≤ size (front ++ more) };
 }
 
-// How far a unit came in.
+// How far a unit came in. Two cases with names: the contract speaks of each.
 #[derive(Clone, Copy, PartialEq)]
 pub enum Fill {
     // it is whole
@@ -38,7 +38,7 @@ pub fn read_unit<F: Framed, R: Read, W: Write + Drop>(
     ensures { Reached F.Framed.size unit.new.items result }
 {
     unit.clear();
-    for _ in 0..u64::MAX {
+    loop {
         let missing = F::wanted(unit.as_slice()).saturating_sub(unit.len());
         if missing == 0 {
             return Ok(Fill::Whole);
@@ -50,7 +50,6 @@ pub fn read_unit<F: Framed, R: Read, W: Write + Drop>(
             return Ok(Fill::Ended);
         }
     }
-    Err(io::Error::new(ErrorKind::Other, "the input does not end"))
 }
 
 // At most `most` bytes of what the input holds, behind those of the unit; answers how many came, 0 at the end.

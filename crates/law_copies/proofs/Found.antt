@@ -1,9 +1,9 @@
 -- The order that an account's token finds.
 use Rattle.std.proofs.Common.{◌≡◌, ℕ, zero, suc, ◌+◌, ◌<◌, Bool, true, false, cond, List, [], ◌∷◌, length, Some, None, unwrap_or, sym, refl, ◌∙◌, arith}
-use Rattle.std.specs.List.{remove, slice_get, AllByRecursion}
+use Rattle.std.specs.List.{remove, slice_get, position_from, AllByRecursion}
 use Rattle.std.proofs.ByRecursion.{All-weaker}
 use Rattle.std.proofs.lemmas.Bool.{and_parts, eqb-true}
-use Rattle.store.specs.Records.{found, found_from, named}
+use Rattle.store.specs.Records.{found, named}
 use Rattle.store.specs.declared.record.Record.{Record}
 use Rattle.law_copies.proofs.Keys.{AllApart, Apart}
 
@@ -32,13 +32,13 @@ pub record Finds (a t : ℕ) (xs : List Record) (j : ℕ) : Type 0 where
   pub only : AllApart xs → Unnamed a t (remove xs j)
 
 module _ (a t : ℕ) where
-  found-place : (i : ℕ) (xs : List Record) (k : ℕ) → found_from i a t xs ≡ Some k → (j : ℕ) × (k ≡ i + j) × Finds a t xs j
+  found-place : (i : ℕ) (xs : List Record) (k : ℕ) → position_from (named a t) i xs ≡ Some k → (j : ℕ) × (k ≡ i + j) × Finds a t xs j
   found-place i [] k e = let z : ◌≡◌ {A = ℕ} 0 1 = cc in absurd (omega arith)
   found-place i (x ∷ xs) k e = by (named a t x) refl e (found-place (i + 1) xs k)
     where
       by :
-          (b : Bool) → named a t x ≡ b → cond b (Some i) (found_from (i + 1) a t xs) ≡ Some k →
-          (found_from (i + 1) a t xs ≡ Some k → (j : ℕ) × (k ≡ i + 1 + j) × Finds a t xs j) →
+          (b : Bool) → named a t x ≡ b → cond b (Some i) (position_from (named a t) (i + 1) xs) ≡ Some k →
+          (position_from (named a t) (i + 1) xs ≡ Some k → (j : ℕ) × (k ≡ i + 1 + j) × Finds a t xs j) →
           (j : ℕ) × (k ≡ i + j) × Finds a t (x ∷ xs) j
       by true f g ih =
           let s : i ≡ k = cc g in
@@ -54,7 +54,7 @@ module _ (a t : ℕ) where
       rw m at r
 
   -- nothing of that name, nothing found
-  pub found_none : (i : ℕ) (xs : List Record) → Unnamed a t xs → found_from i a t xs ≡ None
+  pub found_none : (i : ℕ) (xs : List Record) → Unnamed a t xs → position_from (named a t) i xs ≡ None
   found_none i [] h = refl
   found_none i (x ∷ xs) h = rw h.0 (found_none (i + 1) xs h.1)
 

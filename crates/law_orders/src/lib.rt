@@ -4,43 +4,31 @@
 ghost use Rattle.law_orders.specs.Statements.{RefusedLeaves, IgnoredLeaves, SilentLeaves, RestsUnmet, AmendsUnmet, AlwaysLeft};
 
 // A refused call leaves everything as it was.
-pub fn refused_leaves() -> u8
+pub fn refused_leaves()
     ensures { RefusedLeaves }
-{
-    0
-}
+{}
 
 // An ignored message leaves everything as it was.
-pub fn ignored_leaves() -> u8
+pub fn ignored_leaves()
     ensures { IgnoredLeaves }
-{
-    0
-}
+{}
 
 // A message whose answer counts no reply leaves everything but the clock as it was.
-pub fn silent_leaves() -> u8
+pub fn silent_leaves()
     ensures { SilentLeaves }
-{
-    0
-}
+{}
 
 // What rests of a newcomer meets no order.
-pub fn rests_unmet() -> u8
+pub fn rests_unmet()
     ensures { RestsUnmet }
-{
-    0
-}
+{}
 
 // An order that is amended in its book meets no order.
-pub fn amends_unmet() -> u8
+pub fn amends_unmet()
     ensures { AmendsUnmet }
-{
-    0
-}
+{}
 
 // In every run something is left of every live order.
-pub fn always_left() -> u8
+pub fn always_left()
     ensures { AlwaysLeft }
-{
-    0
-}
+{}

@@ -4,6 +4,6 @@ use Rattle.std.proofs.Common.{ap}
 use Rattle.line.specs.Soup.{size, messages}
 
 -- as many messages are read as are asked for
-pub length-messages : (n : ℕ) (bytes : List ℕ) → length (messages n bytes) ≡ n
-length-messages zero bytes = refl
-length-messages (suc n) bytes = ap suc (length-messages n (drop (size bytes) (drop 3 bytes)))
+pub messages_counted : (n : ℕ) (bytes : List ℕ) → length (messages n bytes) ≡ n
+messages_counted zero bytes = refl
+messages_counted (suc n) bytes = ap suc (messages_counted n (drop (size bytes) (drop 3 bytes)))

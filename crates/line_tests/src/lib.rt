@@ -157,7 +157,7 @@ mod tests {
             (Refusal::NoMessage, 20),
         ];
         for (refusal, number) in table {
-            assert_eq!(rt; refusal.number(), number);
+            assert_eq!(rt; u8::from(refusal), number);
         }
     }
 }

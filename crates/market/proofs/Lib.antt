@@ -1,2 +1,1 @@
-pub mod Adding
-pub mod Recorded
+pub mod Told

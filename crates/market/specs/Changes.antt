@@ -39,16 +39,7 @@ record_at k xs = unwrap_or (slice_get xs k) no_record
 
 -- an order after an execution; the quantity executed stays at the most that its field can hold
 abbrev pub lessened : ℕ → Record → Record
-lessened q x = record {
-  number = x.number;
-  account = x.account;
-  token = x.token;
-  side = x.side;
-  book = x.book;
-  rate = x.rate;
-  left = x.left - q;
-  executed = min (x.executed + q) 4294967295;
-}
+lessened q x = record x { left = x.left - q; executed = min (x.executed + q) 4294967295 }
 
 -- the order at k executes q, and is gone where nothing is left of it
 abbrev pub executed_at : ℕ → ℕ → List Record → List Record

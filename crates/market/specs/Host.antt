@@ -30,6 +30,12 @@ pub record Host : Type 0 where
   pub next_order : ℕ
   pub next_match : ℕ
 
+-- what a caller sees of a market: what it holds, and the two lines, whose layouts are their own
+pub record Held (L : Type 0) : Type 0 where
+  pub host : Host
+  pub feed : L
+  pub replies : L
+
 -- an engine that was just made
 abbrev pub made : ℕ → Meaning → Meaning → ℕ → ℕ → Host
 made room feed replies first_order first_match = record {
@@ -65,164 +71,34 @@ parts_answer orders feed replies first_order first_match = cond (parts_fit order
 -- ---- the same host with another value in one place
 
 abbrev pub with_orders : Host → List Record → Host
-with_orders h x = record {
-  orders = x;
-  room = h.room;
-  feed = h.feed;
-  replies = h.replies;
-  phase = h.phase;
-  clock = h.clock;
-  second = h.second;
-  rows = h.rows;
-  books = h.books;
-  accounts = h.accounts;
-  next_order = h.next_order;
-  next_match = h.next_match;
-}
+with_orders h x = record h { orders = x }
 
 abbrev pub with_feed : Host → Meaning → Option ℕ → Host
-with_feed h x s = record {
-  orders = h.orders;
-  room = h.room;
-  feed = x;
-  replies = h.replies;
-  phase = h.phase;
-  clock = h.clock;
-  second = s;
-  rows = h.rows;
-  books = h.books;
-  accounts = h.accounts;
-  next_order = h.next_order;
-  next_match = h.next_match;
-}
+with_feed h x s = record h { feed = x; second = s }
 
 abbrev pub with_replies : Host → Meaning → Host
-with_replies h x = record {
-  orders = h.orders;
-  room = h.room;
-  feed = h.feed;
-  replies = x;
-  phase = h.phase;
-  clock = h.clock;
-  second = h.second;
-  rows = h.rows;
-  books = h.books;
-  accounts = h.accounts;
-  next_order = h.next_order;
-  next_match = h.next_match;
-}
+with_replies h x = record h { replies = x }
 
 abbrev pub with_phase : Host → Phase → Host
-with_phase h x = record {
-  orders = h.orders;
-  room = h.room;
-  feed = h.feed;
-  replies = h.replies;
-  phase = x;
-  clock = h.clock;
-  second = h.second;
-  rows = h.rows;
-  books = h.books;
-  accounts = h.accounts;
-  next_order = h.next_order;
-  next_match = h.next_match;
-}
+with_phase h x = record h { phase = x }
 
 abbrev pub with_clock : Host → ℕ → Host
-with_clock h x = record {
-  orders = h.orders;
-  room = h.room;
-  feed = h.feed;
-  replies = h.replies;
-  phase = h.phase;
-  clock = x;
-  second = h.second;
-  rows = h.rows;
-  books = h.books;
-  accounts = h.accounts;
-  next_order = h.next_order;
-  next_match = h.next_match;
-}
+with_clock h x = record h { clock = x }
 
 abbrev pub with_rows : Host → List TickRow → Host
-with_rows h x = record {
-  orders = h.orders;
-  room = h.room;
-  feed = h.feed;
-  replies = h.replies;
-  phase = h.phase;
-  clock = h.clock;
-  second = h.second;
-  rows = x;
-  books = h.books;
-  accounts = h.accounts;
-  next_order = h.next_order;
-  next_match = h.next_match;
-}
+with_rows h x = record h { rows = x }
 
 abbrev pub with_books : Host → List Book → Host
-with_books h x = record {
-  orders = h.orders;
-  room = h.room;
-  feed = h.feed;
-  replies = h.replies;
-  phase = h.phase;
-  clock = h.clock;
-  second = h.second;
-  rows = h.rows;
-  books = x;
-  accounts = h.accounts;
-  next_order = h.next_order;
-  next_match = h.next_match;
-}
+with_books h x = record h { books = x }
 
 abbrev pub with_accounts : Host → List Account → Host
-with_accounts h x = record {
-  orders = h.orders;
-  room = h.room;
-  feed = h.feed;
-  replies = h.replies;
-  phase = h.phase;
-  clock = h.clock;
-  second = h.second;
-  rows = h.rows;
-  books = h.books;
-  accounts = x;
-  next_order = h.next_order;
-  next_match = h.next_match;
-}
+with_accounts h x = record h { accounts = x }
 
 abbrev pub with_next_order : Host → ℕ → Host
-with_next_order h x = record {
-  orders = h.orders;
-  room = h.room;
-  feed = h.feed;
-  replies = h.replies;
-  phase = h.phase;
-  clock = h.clock;
-  second = h.second;
-  rows = h.rows;
-  books = h.books;
-  accounts = h.accounts;
-  next_order = x;
-  next_match = h.next_match;
-}
+with_next_order h x = record h { next_order = x }
 
 abbrev pub with_next_match : Host → ℕ → Host
-with_next_match h x = record {
-  orders = h.orders;
-  room = h.room;
-  feed = h.feed;
-  replies = h.replies;
-  phase = h.phase;
-  clock = h.clock;
-  second = h.second;
-  rows = h.rows;
-  books = h.books;
-  accounts = h.accounts;
-  next_order = h.next_order;
-  next_match = x;
-}
+with_next_match h x = record h { next_match = x }
 
 -- one account has used a token
 abbrev pub with_token : Host → ℕ → ℕ → Host

@@ -1,14 +1,13 @@
 // The one way to a change that members can see: the feed tells it, and it is made.
-ghost use Rattle.std.specs.Prelude.{◌≡◌, ◌<◌};
+ghost use Rattle.std.specs.Prelude.{◌≡◌};
 ghost use Rattle.itch.specs.Feed.{feed_bytes};
 ghost use Rattle.line.specs.Meaning.{taken};
 ghost use Rattle.market.specs.Changes.{fed, timed, published, published_all};
 ghost use Rattle.market.specs.Host.{with_feed};
-ghost use Rattle.market.specs.Meaning.{model};
 
 use crate::change::Change;
 use crate::market::Market;
-use crate::time::{nanos_of, second_of};
+use crate::time::Time;
 use itch::feed::FeedMessage;
 use itch::messages::Seconds;
 use line::line::Line;
@@ -19,19 +18,17 @@ mod messages;
 
 impl<S: Store, L: Line> Market<S, L> {
     // A change is told and made.
-    pub fn publish(&mut self, time: u64, change: Change)
-        requires { time < 86400000000000 }
-        ensures { model S.Records.list S.Records.room L.Line.meaning self.new ≡ published (model S.Records.list S.Records.room L.Line.meaning self.old) time change }
+    pub fn publish(&mut self, time: Time, change: Change)
+        ensures { self.new.host ≡ published self.old.host time change }
     {
-        let message = self.message_of(nanos_of(time), change);
+        let message = self.message_of(time.nanos(), change);
         self.tell(time, message);
         self.apply(change);
     }
 
     // The changes in turn, at one time.
-    pub fn publish_all(&mut self, time: u64, changes: &[Change])
-        requires { time < 86400000000000 }
-        ensures { model S.Records.list S.Records.room L.Line.meaning self.new ≡ published_all (model S.Records.list S.Records.room L.Line.meaning self.old) time changes.now }
+    pub fn publish_all(&mut self, time: Time, changes: &[Change])
+        ensures { self.new.host ≡ published_all self.old.host time changes.now }
     {
         for change in changes {
             self.publish(time, *change);
@@ -39,31 +36,28 @@ impl<S: Store, L: Line> Market<S, L> {
     }
 
     // A message on the feed, behind the second where that is new.
-    fn tell(&mut self, time: u64, message: FeedMessage)
-        requires { time < 86400000000000 }
-        ensures { model S.Records.list S.Records.room L.Line.meaning self.new ≡ fed (model S.Records.list S.Records.room L.Line.meaning self.old) time message }
+    fn tell(&mut self, time: Time, message: FeedMessage)
+        ensures { self.new.host ≡ fed self.old.host time message }
     {
         self.tell_second(time);
         self.send(message);
     }
 
     // The second of a time, unless the feed told it last.
-    fn tell_second(&mut self, time: u64)
-        requires { time < 86400000000000 }
-        ensures { model S.Records.list S.Records.room L.Line.meaning self.new ≡ timed (model S.Records.list S.Records.room L.Line.meaning self.old) time }
+    fn tell_second(&mut self, time: Time)
+        ensures { self.new.host ≡ timed self.old.host time }
     {
-        let second = second_of(time);
-        if self.second != Some(second) {
-            self.send(FeedMessage::Seconds(Seconds {
-                seconds: second as u32,
-            }));
-            self.second = Some(second);
+        let second = time.second();
+        let told = Some(u64::from(second));
+        if self.second != told {
+            self.send(FeedMessage::Seconds(Seconds { seconds: second }));
+            self.second = told;
         }
     }
 
     // The bytes of a message onto the feed's line.
     fn send(&mut self, message: FeedMessage)
-        ensures { model S.Records.list S.Records.room L.Line.meaning self.new ≡ with_feed (model S.Records.list S.Records.room L.Line.meaning self.old) (taken (L.Line.meaning self.old.feed) (feed_bytes message)) self.old.second }
+        ensures { self.new.host ≡ with_feed self.old.host (taken self.old.host.feed (feed_bytes message)) self.old.host.second }
     {
         let frame = message.encode();
         let _ = self.feed.take(frame.bytes());

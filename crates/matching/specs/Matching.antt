@@ -11,7 +11,7 @@ use Rattle.store.specs.Best.{best_place, listed, opposite}
 use Rattle.store.specs.declared.record.Record.{Record}
 use Rattle.rules.specs.Reasons.{immediate, post_only}
 use Rattle.rules.specs.Tables.{account_at}
-use Rattle.market.specs.Changes.{lessened, record_at, published, replied}
+use Rattle.market.specs.Changes.{lessened, record_at, published, replied, canceled_reply}
 use Rattle.market.specs.Host.{Host, live, with_next_match}
 use Rattle.market.specs.declared.change.Change.TheVariants as change
 
@@ -92,7 +92,7 @@ matched h t n = walk (live h) h t n
 -- ---- what is left of the newcomer
 
 abbrev pub unfilled_reply : ℕ → Record → Reply
-unfilled_reply t n = reply.Canceled (record { time = t; token = n.token; quantity = n.left; reason = cancels.Immediate })
+unfilled_reply t n = canceled_reply t n cancels.Immediate
 
 -- it rests if it is for the day, and is canceled if it is immediate
 abbrev pub settled : Walked → ℕ → Bool → Host

@@ -5,9 +5,11 @@ ghost use Rattle.store.specs.Best.{opposite};
 
 use fields::letters::Side;
 use rules::reasons::{is_immediate, is_post_only};
+use store::orders::Orders;
 use store::record::Record;
-use store::store::{Records, Store};
+use store::store::Store;
 
+// A function: `Side` is of the messages, which know of no other side.
 pub fn opposite(side: Side) -> Side
     ensures { result ≡ opposite side }
 {
@@ -47,20 +49,19 @@ fn met_in(newcomer: Record, order: Record) -> u32
     }
 }
 
-// What is left in all the orders that a newcomer meets. The sum of 4,096 quantities of 32 bits fits 64.
+// What is left in all the orders that a newcomer meets. The sum of 4,096 quantities of 32 bits fits 64. A loop, since a
+// closure that is summed over would have to promise those 32 bits in clauses of its own.
 pub fn meeting_quantity<S: Store>(store: &S, newcomer: Record) -> u64
     ensures { result ≡ meeting_quantity newcomer (S.Records.list store.now) }
 {
-    let mut meeting = 0u64;
-    let mut at = store.start();
-    for k in 0..store.len() {
-        let step = store.step(k, at);
-        meeting += u64::from(met_in(newcomer, step.order));
-        at = step.next;
+    let mut meeting = 0;
+    for order in Orders::of(store) {
+        meeting += u64::from(met_in(newcomer, order));
     }
     meeting
 }
 
+// Three terms of an Enter or a Replace: a struct of them would be made for this question alone.
 // An immediate order is dead when nothing meets it, or less than its minimum; a post-only order when anything does.
 pub fn is_dead(force: u32, display: u8, minimum: u32, meeting: u64) -> bool
     ensures { result ≡ is_dead force display minimum meeting }

@@ -1,59 +1,46 @@
 // A newcomer enters the book: it executes, and what is left of it rests or is canceled.
-ghost use Rattle.std.specs.Prelude.{◌≡◌, ◌<◌, ◌≤◌};
-ghost use Rattle.market.specs.Meaning.{model};
-ghost use Rattle.matching.specs.Matching.{walked, unfilled_reply, settled, placed};
+ghost use Rattle.std.specs.Prelude.{◌≡◌, ◌≤◌, ◌^◌};
+ghost use Rattle.matching.specs.Matching.{walked, settled, placed};
 
 use crate::walk::walk;
 use line::line::Line;
 use market::change::Change;
 use market::market::Market;
+use market::time::Time;
 use ouch::letters::CancelReason;
-use ouch::replies::Canceled;
-use ouch::reply::Reply;
 use rules::reasons::is_immediate;
 use store::record::Record;
 use store::store::Store;
 
-fn unfilled_reply(time: u64, newcomer: Record) -> Reply
-    ensures { result ≡ unfilled_reply time newcomer }
-{
-    Reply::Canceled(Canceled {
-        time,
-        token: newcomer.token,
-        quantity: newcomer.left,
-        reason: CancelReason::Immediate,
-    })
-}
-
-// What is left of a newcomer is canceled if it is immediate, and rests if it is for the day.
+// What is left of a newcomer is canceled if it is immediate, and rests if it is for the day: the rule's two ends, side by
+// side.
 fn settle<S: Store, L: Line>(
     market: &mut Market<S, L>,
-    time: u64,
+    time: Time,
     newcomer: Record,
     immediate: bool,
 )
-    requires { time < 86400000000000 }
-    ensures { model S.Records.list S.Records.room L.Line.meaning market.new ≡ settled (walked (model S.Records.list S.Records.room L.Line.meaning market.old) newcomer) time immediate }
+    ensures { market.new.host ≡ settled (walked market.old.host newcomer) time immediate }
 {
     if newcomer.left == 0 {
         return;
     }
     if immediate {
-        market.reply(newcomer.account, unfilled_reply(time, newcomer));
+        market.reply_canceled(time, newcomer, CancelReason::Immediate);
     } else {
         market.publish(time, Change::Rest(newcomer));
     }
 }
 
-// A newcomer of this time in force enters the book.
+// A newcomer of this time in force enters the book. The bound ends with the first match number taken: no type holds it.
 pub fn place_order<S: Store, L: Line>(
     market: &mut Market<S, L>,
-    time: u64,
+    time: Time,
     newcomer: Record,
     force: u32,
 )
-    requires { (time < 86400000000000) × (market.old.next_match ≤ 9223372036854775808) }
-    ensures { model S.Records.list S.Records.room L.Line.meaning market.new ≡ placed (model S.Records.list S.Records.room L.Line.meaning market.old) time newcomer force }
+    requires matches { market.old.host.next_match ≤ 2 ^ 63 }
+    ensures { market.new.host ≡ placed market.old.host time newcomer force }
 {
     let rest = walk(market, time, newcomer);
     settle(market, time, rest, is_immediate(force));

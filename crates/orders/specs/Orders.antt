@@ -96,16 +96,7 @@ entered h t account m =
 
 -- the order that a Replace makes of x: it keeps side, book and what it has executed
 abbrev pub replacement : Host → Record → Replace → Record
-replacement h x m = record {
-  number = h.next_order;
-  account = x.account;
-  token = m.replacement;
-  side = x.side;
-  book = x.book;
-  rate = m.price;
-  left = balance x.executed m;
-  executed = x.executed;
-}
+replacement h x m = record x { number = h.next_order; token = m.replacement; rate = m.price; left = balance x.executed m }
 
 abbrev pub replaced_reply : ℕ → Replace → Record → Bool → Reply
 replaced_reply t m n dead = reply.Replaced (record {

@@ -1,6 +1,5 @@
 // Enter: a new order is ignored, rejected for a reason, accepted dead, or enters the book.
-ghost use Rattle.std.specs.Prelude.{◌≡◌, ◌<◌, ◌≤◌};
-ghost use Rattle.market.specs.Meaning.{model};
+ghost use Rattle.std.specs.Prelude.{◌≡◌, ◌≤◌, ◌^◌};
 ghost use Rattle.ouch.specs.Inbound.{entered as asked};
 ghost use Rattle.orders.specs.Orders.{newcomer, accepted_reply, rejected_reply, full, accepted, judged, entered};
 
@@ -8,6 +7,7 @@ use crate::number::{dead_or, reply_numbered};
 use fields::letters::Side;
 use line::line::Line;
 use market::market::Market;
+use market::time::Time;
 use matching::meeting::{is_dead, meeting_quantity};
 use matching::placing::place_order;
 use ouch::inbound::Enter;
@@ -20,13 +20,14 @@ use store::store::{Records, Store};
 
 // The order that an Enter asks for.
 fn newcomer<S: Store, L: Line>(market: &Market<S, L>, account: u8, message: Enter<'_>) -> Record
-    ensures { result ≡ newcomer (model S.Records.list S.Records.room L.Line.meaning market.now) account (asked message.entry) }
+    ensures { result ≡ newcomer market.now.host account (asked message.entry) }
 {
     Record {
         number: market.next_order,
         account,
         token: message.token,
-        side: Side::read(message.side).unwrap_or(Side::Buy),
+        // where the letter is wrong, the order was rejected
+        side: Side::try_from(message.side).unwrap_or(Side::Buy),
         book: message.code,
         rate: message.price,
         left: message.quantity,
@@ -35,13 +36,14 @@ fn newcomer<S: Store, L: Line>(market: &Market<S, L>, account: u8, message: Ente
 }
 
 // What was entered, said back, with the order's number and state.
-fn accepted_reply(time: u64, message: Enter<'_>, order: Record, dead: bool) -> Reply
+fn accepted_reply(time: Time, message: Enter<'_>, order: Record, dead: bool) -> Reply
     ensures { result ≡ accepted_reply time (asked message.entry) order dead }
 {
+    // Arrays go in through locals: straight from a field the check does not take them.
     let reference = *message.reference;
     let group = message.group;
     Reply::Accepted(Accepted {
-        time,
+        time: time.into(),
         token: message.token,
         reference,
         side: order.side,
@@ -61,11 +63,11 @@ fn accepted_reply(time: u64, message: Enter<'_>, order: Record, dead: bool) -> R
     })
 }
 
-fn rejected_reply(time: u64, message: Enter<'_>, reason: RejectReason) -> Reply
+fn rejected_reply(time: Time, message: Enter<'_>, reason: RejectReason) -> Reply
     ensures { result ≡ rejected_reply time (asked message.entry) reason }
 {
     Reply::Rejected(Rejected {
-        time,
+        time: time.into(),
         token: message.token,
         reason,
     })
@@ -73,7 +75,7 @@ fn rejected_reply(time: u64, message: Enter<'_>, reason: RejectReason) -> Reply
 
 // Whether the store has no place for one more order.
 fn is_full<S: Store, L: Line>(market: &Market<S, L>) -> bool
-    ensures { result ≡ full (model S.Records.list S.Records.room L.Line.meaning market.now) }
+    ensures { result ≡ full market.now.host }
 {
     market.store.len() >= market.store.capacity()
 }
@@ -81,12 +83,13 @@ fn is_full<S: Store, L: Line>(market: &Market<S, L>) -> bool
 // A dead order is only answered; a live one enters the book.
 fn accept<S: Store, L: Line>(
     market: &mut Market<S, L>,
-    time: u64,
+    time: Time,
     message: Enter<'_>,
     order: Record,
 )
-    requires { (time < 86400000000000) × ((market.old.next_order ≤ 9223372036854775808) × (market.old.next_match ≤ 9223372036854775808)) }
-    ensures { model S.Records.list S.Records.room L.Line.meaning market.new ≡ accepted (model S.Records.list S.Records.room L.Line.meaning market.old) time (asked message.entry) order }
+    requires orders { market.old.host.next_order ≤ 2 ^ 63 }
+    requires matches { market.old.host.next_match ≤ 2 ^ 63 }
+    ensures { market.new.host ≡ accepted market.old.host time (asked message.entry) order }
 {
     let meeting = meeting_quantity(&market.store, order);
     let dead = is_dead(message.force, message.display, message.minimum, meeting);
@@ -104,12 +107,13 @@ fn accept<S: Store, L: Line>(
 // rejected, so that a second copy of the message is ignored.
 pub fn enter_order<S: Store, L: Line>(
     market: &mut Market<S, L>,
-    time: u64,
+    time: Time,
     account: u8,
     message: Enter<'_>,
 )
-    requires { (time < 86400000000000) × ((market.old.next_order ≤ 9223372036854775808) × (market.old.next_match ≤ 9223372036854775808)) }
-    ensures { model S.Records.list S.Records.room L.Line.meaning market.new ≡ entered (model S.Records.list S.Records.room L.Line.meaning market.old) time account (asked message.entry) }
+    requires orders { market.old.host.next_order ≤ 2 ^ 63 }
+    requires matches { market.old.host.next_match ≤ 2 ^ 63 }
+    ensures { market.new.host ≡ entered market.old.host time account (asked message.entry) }
 {
     let number = usize::from(account);
     if message.token <= market.accounts.last_token(number) {

@@ -1,6 +1,5 @@
 // A reply that takes the next order number, and says whether the order lives.
-ghost use Rattle.std.specs.Prelude.{◌≡◌, ◌≤◌};
-ghost use Rattle.market.specs.Meaning.{model};
+ghost use Rattle.std.specs.Prelude.{◌≡◌, ◌≤◌, ◌^◌};
 ghost use Rattle.orders.specs.Orders.{dead_or, numbered};
 
 use line::line::Line;
@@ -9,6 +8,7 @@ use ouch::letters::OrderState;
 use ouch::reply::Reply;
 use store::store::Store;
 
+// A function: an impl of `From<bool>` is refused, since both types are other crates'.
 pub(crate) fn dead_or(dead: bool) -> OrderState
     ensures { result ≡ dead_or dead }
 {
@@ -24,8 +24,8 @@ pub(crate) fn reply_numbered<S: Store, L: Line>(
     account: u8,
     reply: Reply,
 )
-    requires { market.old.next_order ≤ 9223372036854775808 }
-    ensures { model S.Records.list S.Records.room L.Line.meaning market.new ≡ numbered (model S.Records.list S.Records.room L.Line.meaning market.old) account reply }
+    requires orders { market.old.host.next_order ≤ 2 ^ 63 }
+    ensures { market.new.host ≡ numbered market.old.host account reply }
 {
     market.reply(account, reply);
     market.next_order += 1;

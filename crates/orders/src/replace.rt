@@ -1,14 +1,14 @@
 // Replace: a live order gets a new token, number, quantity and yield, or is canceled for a reason.
-ghost use Rattle.std.specs.Prelude.{◌≡◌, ◌<◌, ◌≤◌, ◌||◌, ◌==◌};
+ghost use Rattle.std.specs.Prelude.{◌≡◌, ◌≤◌, ◌||◌, ◌==◌, ◌^◌};
 ghost use Rattle.market.specs.Changes.{record_at};
-ghost use Rattle.market.specs.Meaning.{model};
 ghost use Rattle.matching.specs.Matching.{is_dead, meeting_quantity};
-ghost use Rattle.orders.specs.Orders.{replacement, replaced_reply, amended, granted, rejudged, reason_at, replaced_at, replaced};
+ghost use Rattle.orders.specs.Orders.{replacement, replaced_reply, granted, rejudged, reason_at, replaced_at, replaced};
 
 use crate::number::{dead_or, reply_numbered};
 use line::line::Line;
 use market::change::Change;
 use market::market::Market;
+use market::time::Time;
 use matching::meeting::{is_dead, meeting_quantity};
 use matching::placing::place_order;
 use ouch::inbound::Replace;
@@ -22,7 +22,7 @@ use store::store::Store;
 
 // The order that a Replace makes of another: it keeps side, book and what it has executed.
 fn replacement<S: Store, L: Line>(market: &Market<S, L>, order: Record, message: Replace) -> Record
-    ensures { result ≡ replacement (model S.Records.list S.Records.room L.Line.meaning market.now) order message }
+    ensures { result ≡ replacement market.now.host order message }
 {
     Record {
         number: market.next_order,
@@ -33,11 +33,11 @@ fn replacement<S: Store, L: Line>(market: &Market<S, L>, order: Record, message:
     }
 }
 
-fn replaced_reply(time: u64, message: Replace, order: Record, dead: bool) -> Reply
+fn replaced_reply(time: Time, message: Replace, order: Record, dead: bool) -> Reply
     ensures { result ≡ replaced_reply time message order dead }
 {
     Reply::Replaced(Replaced {
-        time,
+        time: time.into(),
         token: message.replacement,
         side: order.side,
         quantity: order.left,
@@ -59,7 +59,7 @@ fn reason_at<S: Store, L: Line>(
     order: Record,
     message: Replace,
 ) -> Option<CancelReason>
-    ensures { result ≡ reason_at (model S.Records.list S.Records.room L.Line.meaning market.now) message order }
+    ensures { result ≡ reason_at market.now.host message order }
 {
     let book = market.books.find_or_blank(order.book);
     replace_reason(market.phase, &market.rows, book, order.executed, message)
@@ -72,39 +72,18 @@ fn dies(message: Replace, order: Record, meeting: u64) -> bool
     order.left == 0 || is_dead(message.force, message.display, message.minimum, meeting)
 }
 
-// Dead: the order leaves the book. Nothing meets: it is amended. Else it leaves the book and comes back as a newcomer.
-fn amend<S: Store, L: Line>(
-    market: &mut Market<S, L>,
-    time: u64,
-    message: Replace,
-    place: usize,
-    order: Record,
-    dead: bool,
-    meeting: u64,
-)
-    requires { (time < 86400000000000) × (market.old.next_match ≤ 9223372036854775808) }
-    ensures { model S.Records.list S.Records.room L.Line.meaning market.new ≡ amended (model S.Records.list S.Records.room L.Line.meaning market.old) time message place order dead meeting }
-{
-    if dead {
-        market.publish(time, Change::Withdraw(place));
-    } else if meeting == 0 {
-        market.publish(time, Change::Amend(place, order));
-    } else {
-        market.publish(time, Change::Withdraw(place));
-        place_order(market, time, order, message.force);
-    }
-}
-
-// The new token becomes the account's last, and the account is told the balance before any matching.
+// The new token becomes the account's last, and the account is told the balance before any matching. Dead: the order
+// leaves the book. Nothing meets: it is amended. Else it leaves the book and comes back as a newcomer.
 fn grant<S: Store, L: Line>(
     market: &mut Market<S, L>,
-    time: u64,
+    time: Time,
     message: Replace,
     place: usize,
     order: Record,
 )
-    requires { (time < 86400000000000) × ((market.old.next_order ≤ 9223372036854775808) × (market.old.next_match ≤ 9223372036854775808)) }
-    ensures { model S.Records.list S.Records.room L.Line.meaning market.new ≡ granted (model S.Records.list S.Records.room L.Line.meaning market.old) time message place order (meeting_quantity order (S.Records.list market.old.store)) }
+    requires orders { market.old.host.next_order ≤ 2 ^ 63 }
+    requires matches { market.old.host.next_match ≤ 2 ^ 63 }
+    ensures { market.new.host ≡ granted market.old.host time message place order (meeting_quantity order market.old.host.orders) }
 {
     let meeting = meeting_quantity(&market.store, order);
     let dead = dies(message, order, meeting);
@@ -116,18 +95,26 @@ fn grant<S: Store, L: Line>(
         order.account,
         replaced_reply(time, message, order, dead),
     );
-    amend(market, time, message, place, order, dead, meeting);
+    if dead {
+        market.publish(time, Change::Withdraw(place));
+    } else if meeting == 0 {
+        market.publish(time, Change::Amend(place, order));
+    } else {
+        market.publish(time, Change::Withdraw(place));
+        place_order(market, time, order, message.force);
+    }
 }
 
 // The order at a place is canceled for a reason, or replaced.
 fn replace_at<S: Store, L: Line>(
     market: &mut Market<S, L>,
-    time: u64,
+    time: Time,
     place: usize,
     message: Replace,
 )
-    requires { (time < 86400000000000) × ((market.old.next_order ≤ 9223372036854775808) × (market.old.next_match ≤ 9223372036854775808)) }
-    ensures { model S.Records.list S.Records.room L.Line.meaning market.new ≡ rejudged (model S.Records.list S.Records.room L.Line.meaning market.old) time message place (reason_at (model S.Records.list S.Records.room L.Line.meaning market.old) message (record_at place (S.Records.list market.old.store))) }
+    requires orders { market.old.host.next_order ≤ 2 ^ 63 }
+    requires matches { market.old.host.next_match ≤ 2 ^ 63 }
+    ensures { market.new.host ≡ rejudged market.old.host time message place (reason_at market.old.host message (record_at place market.old.host.orders)) }
 {
     let order = market.record_at(place);
     match reason_at(market, order, message) {
@@ -142,16 +129,18 @@ fn replace_at<S: Store, L: Line>(
 // Ignored if the existing token is not live or the new one is not above the account's last.
 pub fn replace_order<S: Store, L: Line>(
     market: &mut Market<S, L>,
-    time: u64,
+    time: Time,
     account: u8,
     message: Replace,
 )
-    requires { (time < 86400000000000) × ((market.old.next_order ≤ 9223372036854775808) × (market.old.next_match ≤ 9223372036854775808)) }
-    ensures { model S.Records.list S.Records.room L.Line.meaning market.new ≡ replaced (model S.Records.list S.Records.room L.Line.meaning market.old) time account message }
+    requires orders { market.old.host.next_order ≤ 2 ^ 63 }
+    requires matches { market.old.host.next_match ≤ 2 ^ 63 }
+    ensures { market.new.host ≡ replaced market.old.host time account message }
 {
-    if let Some(place) = market.store.find(account, message.existing) {
-        if message.replacement > market.accounts.last_token(usize::from(account)) {
-            replace_at(market, time, place, message);
-        }
+    let Some(place) = market.store.find(account, message.existing) else {
+        return;
+    };
+    if message.replacement > market.accounts.last_token(usize::from(account)) {
+        replace_at(market, time, place, message);
     }
 }

@@ -131,7 +131,7 @@ fn messages(rt: HostRuntime) {
 fn refusals(rt: HostRuntime) -> Result<(), Fail> {
     for (bytes, number) in REFUSED {
         let fault = Inbound::read(bytes).err().ok_or("not refused")?;
-        assert_eq!(rt; fault.number(), number);
+        assert_eq!(rt; u8::from(fault), number);
     }
     Ok(())
 }

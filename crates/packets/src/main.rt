@@ -19,12 +19,13 @@ fn show<R: Read, W: Write>(
     let mut stream = Stream::new(heap);
     let mut text = String::new(heap);
     let mut piece = [0u8; PIECE];
+    // Each loop has a bound: no input takes that many reads.
     for _ in 0..u64::MAX {
         let n = input.read(&mut piece)?;
         if n == 0 {
             break;
         }
-        stream.take(&piece[0..n], &mut text)?;
+        stream.take(&piece[..n], &mut text)?;
         out.write_all(text.as_bytes())?;
         out.flush()?;
         text.clear();

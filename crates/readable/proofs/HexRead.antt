@@ -9,11 +9,10 @@ use Rattle.std.proofs.lemmas.List.Elements.{filter-append}
 use Rattle.std.proofs.ByRecursion.{All-get_or, kept_by_passes}
 use Rattle.std.proofs.lemmas.List.{get_or-map, take-append-drop}
 use Rattle.std.proofs.lemmas.Bool.Decides.{nat_tests}
-use Rattle.readable.specs.declared.bytes.Form.TheVariants.{Hex, HexWord}
 use Rattle.readable.specs.Hex.{hex_digit, hex_byte, paired}
 use Rattle.readable.specs.PacketLines.{UnknownNames}
-use Rattle.readable.specs.Spelling.{spelt, spelling}
-use Rattle.readable.proofs.Joins.{joined-append}
+use Rattle.readable.specs.Spelling.{hex_bytes}
+use Rattle.std.proofs.lemmas.List.Concat.{flat_map-append}
 
 below : (n : ℕ) → n % 16 < 16
 below n = omega arith
@@ -52,9 +51,9 @@ kept_all f one (b ∷ bs) =
 pub unknown_names : UnknownNames
 unknown_names p u =
     ap paired (
-    filter-append (λ c. not (eqb c 32)) (spelling Hex (take 2 p)) (spelling HexWord (drop 2 p))
-    ∙ (λ i. kept_all (spelt Hex) kept_byte (take 2 p) i ++ kept_all (spelt HexWord) kept_byte (drop 2 p) i)
-    ∙ sym (joined-append hex_byte (take 2 p) (drop 2 p))
+    filter-append (λ c. not (eqb c 32)) (hex_bytes [] (take 2 p)) (hex_bytes (codes " ") (drop 2 p))
+    ∙ (λ i. kept_all hex_byte kept_byte (take 2 p) i ++ kept_all (λ b. codes " " ++ hex_byte b) kept_byte (drop 2 p) i)
+    ∙ sym (flat_map-append hex_byte (take 2 p) (drop 2 p))
     ∙ ap (flat_map hex_byte) (take-append-drop 2 p)
     )
     ∙ paired_bytes p u

@@ -1,6 +1,5 @@
 pub mod Cuts
 pub mod HexRead
-pub mod Joins
 pub mod Once
 pub mod OneLine
 pub mod Padding

@@ -1,8 +1,8 @@
 -- Every byte of a line is printable.
-use Rattle.std.proofs.Common.{◌≡◌, ℕ, zero, suc, ◌/◌, ◌%◌, true, false, ◌&&◌, eqb, leb, List, [], ◌∷◌, ◌++◌, ℤ, pos, negsuc, Some, None, codes, decimal, Option, sym, refl, ap, ◌∙◌, arith}
-use mathlib.Core.Bool.{and_assoc}
+use Rattle.std.proofs.Common.{◌≡◌, ℕ, zero, suc, ◌/◌, ◌%◌, true, false, ◌&&◌, eqb, leb, List, [], ◌∷◌, ◌++◌, ℤ, pos, negsuc, replicate, take, drop, Some, None, codes, decimal, Option, sym, refl, ap, ◌∙◌, arith}
 use Rattle.std.specs.Fmt.{digit_glyph, digits_onto}
 use Rattle.std.proofs.DigitsParse.{digits_onto-nil}
+use Rattle.std.proofs.lemmas.List.Folds.{list_all-append}
 use Rattle.std.proofs.lemmas.Bool.{and_from, cond_both}
 use Rattle.std.proofs.lemmas.Bool.Decides.{nat_tests}
 use Rattle.fields.specs.declared.letters.Event.{Event}
@@ -25,8 +25,7 @@ use Rattle.ouch.specs.declared.letters.RejectReason.{RejectReason}
 use Rattle.ouch.specs.declared.letters.RejectReason.TheVariants as reject
 use Rattle.ouch.specs.declared.reply.Reply.{Reply}
 use Rattle.ouch.specs.declared.reply.Reply.TheVariants as told
-use Rattle.readable.specs.declared.bytes.Form.{Form}
-use Rattle.readable.specs.declared.bytes.Form.TheVariants.{Text, Hex, HexWord}
+use Rattle.std.specs.List.{flat_map}
 use Rattle.readable.specs.Hex.{hex_digit, hex_byte}
 use Rattle.readable.specs.PacketLines.{one_line, feed_line, OneLine}
 use Rattle.readable.specs.ReplyLines.{reply_line}
@@ -36,12 +35,6 @@ use Rattle.readable.specs.Spelling.{printable, spelt, spelling}
 use Rattle.readable.specs.Times.{second_text}
 use Rattle.readable.specs.Words.{side_word, event_word, state_word, day_event_word, order_state_word, liquidity_word, cancel_word, reject_word}
 use Rattle.readable.proofs.HexRead.{digit_seen}
-
-one_append : (xs ys : List ℕ) → one_line (xs ++ ys) ≡ (one_line xs && one_line ys)
-one_append [] ys = refl
-one_append (x ∷ xs) ys =
-    ap (λ t. leb 32 x && leb x 126 && t) (one_append xs ys)
-    ∙ sym (and_assoc (leb 32 x && leb x 126) (one_line xs) (one_line ys))
 
 glyph_one : (n : ℕ) → (leb 32 (digit_glyph false (n % 10)) && leb (digit_glyph false (n % 10)) 126) ≡ true
 glyph_one n = grind (arith, nat_tests)
@@ -56,13 +49,17 @@ spelled_one (suc k) n acc h =
 decimal_one : (n : ℕ) → one_line (decimal n) ≡ true
 decimal_one n = ap one_line (sym (digits_onto-nil 10 false n)) ∙ spelled_one 64 n [] refl
 
+zeros_one : (k : ℕ) → one_line (replicate k 48) ≡ true
+zeros_one zero = refl
+zeros_one (suc k) = zeros_one k
+
 second_one : (s : Option ℕ) → one_line (second_text s) ≡ true
 second_one None = refl
-second_one (Some s) = simp (one_append, decimal_one)
+second_one (Some s) = simp (list_all-append, zeros_one, decimal_one)
 
 percent_one : (z : ℤ) → one_line (percent z) ≡ true
-percent_one (pos n) = simp (one_append, decimal_one)
-percent_one (negsuc n) = simp (one_append, decimal_one)
+percent_one (pos n) = simp (list_all-append, zeros_one, decimal_one)
+percent_one (negsuc n) = simp (list_all-append, zeros_one, decimal_one)
 
 digit_one : (n : ℕ) → (leb 32 (hex_digit n) && leb (hex_digit n) 126) ≡ true
 digit_one n = let h = digit_seen n in grind (arith, nat_tests)
@@ -70,18 +67,18 @@ digit_one n = let h = digit_seen n in grind (arith, nat_tests)
 hex_one : (b : ℕ) → one_line (hex_byte b) ≡ true
 hex_one b = simp (digit_one (b / 16), digit_one b)
 
-spelt_one : (form : Form) (b : ℕ) → one_line (spelt form b) ≡ true
-spelt_one Text b =
+spelt_one : (b : ℕ) → one_line (spelt b) ≡ true
+spelt_one b =
     cond_both (printable b) (b ∷ []) (codes "\\x" ++ hex_byte b) (λ x. one_line x ≡ true)
     (λ e. grind (arith, nat_tests))
     (λ e. hex_one b)
-spelt_one Hex b = hex_one b
-spelt_one HexWord b = hex_one b
 
-spelling_one : (form : Form) (bs : List ℕ) → one_line (spelling form bs) ≡ true
-spelling_one form [] = refl
-spelling_one form (b ∷ bs) =
-    one_append (spelt form b) (spelling form bs) ∙ and_from _ _ (spelt_one form b) (spelling_one form bs)
+each_one : (f : ℕ → List ℕ) → ((b : ℕ) → one_line (f b) ≡ true) → (bs : List ℕ) → one_line (flat_map f bs) ≡ true
+each_one f one [] = refl
+each_one f one (b ∷ bs) = list_all-append _ (f b) (flat_map f bs) ∙ and_from _ _ (one b) (each_one f one bs)
+
+spelling_one : (bs : List ℕ) → one_line (spelling bs) ≡ true
+spelling_one = each_one spelt spelt_one
 
 side_one : (m : Mark) → one_line (side_word m) ≡ true
 side_one mark.Buy = refl
@@ -137,29 +134,30 @@ reject_one reject.Quantity = refl
 reject_one reject.Minimum = refl
 
 feed_one : (s : Option ℕ) (m : FeedMessage) → one_line (feed_line s m) ≡ true
-feed_one s (message.Seconds m) = simp (one_append, decimal_one)
-feed_one s (message.Event m) = simp (one_append, decimal_one, second_one, spelling_one, event_one)
-feed_one s (message.Tick m) = simp (one_append, decimal_one, second_one, percent_one)
-feed_one s (message.Directory m) = simp (one_append, decimal_one, second_one, spelling_one, percent_one)
-feed_one s (message.State m) = simp (one_append, decimal_one, second_one, spelling_one, state_one)
-feed_one s (message.Added m) = simp (one_append, decimal_one, second_one, spelling_one, percent_one, side_one)
-feed_one s (message.Executed m) = simp (one_append, decimal_one, second_one)
-feed_one s (message.Deleted m) = simp (one_append, decimal_one, second_one)
-feed_one s (message.Replaced m) = simp (one_append, decimal_one, second_one, percent_one)
-feed_one s (message.EndOfSnapshot m) = simp (one_append, decimal_one, second_one)
+feed_one s (message.Seconds m) = simp (list_all-append, zeros_one, decimal_one)
+feed_one s (message.Event m) = simp (list_all-append, zeros_one, decimal_one, second_one, spelling_one, event_one)
+feed_one s (message.Tick m) = simp (list_all-append, zeros_one, decimal_one, second_one, percent_one)
+feed_one s (message.Directory m) = simp (list_all-append, zeros_one, decimal_one, second_one, spelling_one, percent_one)
+feed_one s (message.State m) = simp (list_all-append, zeros_one, decimal_one, second_one, spelling_one, state_one)
+feed_one s (message.Added m) = simp (list_all-append, zeros_one, decimal_one, second_one, spelling_one, percent_one, side_one)
+feed_one s (message.Executed m) = simp (list_all-append, zeros_one, decimal_one, second_one)
+feed_one s (message.Deleted m) = simp (list_all-append, zeros_one, decimal_one, second_one)
+feed_one s (message.Replaced m) = simp (list_all-append, zeros_one, decimal_one, second_one, percent_one)
+feed_one s (message.EndOfSnapshot m) = simp (list_all-append, decimal_one, second_one)
 
 reply_one : (m : Reply) → one_line (reply_line m) ≡ true
-reply_one (told.SystemEvent m) = simp (one_append, decimal_one, day_event_one)
+reply_one (told.SystemEvent m) = simp (list_all-append, zeros_one, decimal_one, day_event_one)
 reply_one (told.Accepted m) =
-    simp (one_append, decimal_one, spelling_one, percent_one, side_one, order_state_one)
+    simp (list_all-append, zeros_one, decimal_one, spelling_one, percent_one, side_one, order_state_one)
 reply_one (told.Replaced m) =
-    simp (one_append, decimal_one, spelling_one, percent_one, side_one, order_state_one)
-reply_one (told.Canceled m) = simp (one_append, decimal_one, cancel_one)
-reply_one (told.Executed m) = simp (one_append, decimal_one, spelling_one, percent_one, liquidity_one)
-reply_one (told.Rejected m) = simp (one_append, decimal_one, reject_one)
+    simp (list_all-append, zeros_one, decimal_one, spelling_one, percent_one, side_one, order_state_one)
+reply_one (told.Canceled m) = simp (list_all-append, zeros_one, decimal_one, cancel_one)
+reply_one (told.Executed m) = simp (list_all-append, zeros_one, decimal_one, spelling_one, percent_one, liquidity_one)
+reply_one (told.Rejected m) = simp (list_all-append, zeros_one, decimal_one, reject_one)
 
 pub one_line_lem : OneLine
 one_line_lem s (feed m) = feed_one s m
-one_line_lem s (reply account m) = simp (one_append, decimal_one, reply_one)
-one_line_lem s (fault t) = spelling_one Text t
-one_line_lem s (unknown p) = simp (one_append, spelling_one)
+one_line_lem s (reply account m) = simp (list_all-append, decimal_one, reply_one)
+one_line_lem s (fault t) = spelling_one t
+one_line_lem s (unknown p) =
+    simp list_all-append (and_from _ _ (each_one hex_byte hex_one (take 2 p)) (each_one (λ b. codes " " ++ hex_byte b) hex_one (drop 2 p)))

@@ -1,8 +1,8 @@
 -- The spaces at the end of a text, one by one.
-use Rattle.std.proofs.Common.{◌≡◌, ℕ, suc, ◌+◌, ◌-◌, ◌<◌, ◌≤◌, true, false, ◌&&◌, eqb, ◌≢◌, List, [], ◌∷◌, ◌++◌, length, get_or, take, replicate, sym, refl, ap, ◌∙◌, arith}
+use Rattle.std.proofs.Common.{◌≡◌, ℕ, suc, ◌+◌, ◌-◌, ◌<◌, true, false, ◌&&◌, eqb, ◌≢◌, List, [], ◌∷◌, ◌++◌, length, get_or, take, replicate, sym, refl, ap, ◌∙◌, arith}
 use native.Mathlib.Nat.{sub-zero}
 use Rattle.std.specs.Int.Digits.{AllBelowBase}
-use Rattle.std.proofs.lemmas.List.{take_more}
+use Rattle.std.proofs.lemmas.List.{take_more, take_all}
 use Rattle.std.proofs.lemmas.Bool.{ne_eqb, eqb-true, and_right, and_parts, cond_both}
 use Rattle.readable.specs.Spelling.{spaces, unpadded}
 
@@ -22,21 +22,25 @@ unpadded_end : (xs : List ℕ) (b : ℕ) → b ≢ 32 → unpadded (xs ++ b ∷ 
 unpadded_end [] b ne = simp (ne_eqb b 32 ne)
 unpadded_end (x ∷ xs) b ne = simp (spaces_end (x ∷ xs) b ne, unpadded_end xs b ne)
 
-last : (xs : List ℕ) (n : ℕ) → 0 < n → n ≤ length xs → take n xs ≡ take (n - 1) xs ++ get_or xs (n - 1) 0 ∷ []
-last xs n some in' = ap (λ k. take k xs) {x = n} {y = n - 1 + 1} (omega arith) ∙ take_more xs (n - 1) 0 (omega arith)
+last : (xs : List ℕ) → 0 < length xs → xs ≡ take (length xs - 1) xs ++ get_or xs (length xs - 1) 0 ∷ []
+last xs some =
+    sym (take_all (length xs) xs (omega arith))
+    ∙ ap (λ k. take k xs) {x = length xs} {y = length xs - 1 + 1} (omega arith)
+    ∙ take_more xs (length xs - 1) 0 (omega arith)
 
--- a front that ends in a space, and one that does not
-pub front_space : (xs : List ℕ) (n : ℕ) → 0 < n → n ≤ length xs → get_or xs (n - 1) 0 ≡ 32
-    → unpadded (take (n - 1) xs) ≡ unpadded (take n xs)
-front_space xs n some in' e = simp (last xs n some in', e, unpadded-more)
+-- a text that ends in a space, and one that does not
+pub front_space : (xs : List ℕ) → 0 < length xs → get_or xs (length xs - 1) 0 ≡ 32
+    → unpadded (take (length xs - 1) xs) ≡ unpadded xs
+front_space xs some e =
+    sym (unpadded-more (take (length xs - 1) xs))
+    ∙ ap (λ b. unpadded (take (length xs - 1) xs ++ b ∷ [])) (sym e)
+    ∙ ap unpadded (sym (last xs some))
 
-pub front_solid : (xs : List ℕ) (n : ℕ) → 0 < n → n ≤ length xs → get_or xs (n - 1) 0 ≢ 32
-    → take (n - 0) xs ≡ unpadded (take n xs)
-front_solid xs n some in' ne =
-    simp (sub-zero, last xs n some in', unpadded_end (take (n - 1) xs) (get_or xs (n - 1) 0) ne)
-
-pub front_none : (xs : List ℕ) (n : ℕ) → n ≤ 0 → take (n - 0) xs ≡ unpadded (take n xs)
-front_none xs n none = let e : n ≡ 0 = omega arith in simp e
+pub front_solid : (xs : List ℕ) → 0 < length xs → get_or xs (length xs - 1) 0 ≢ 32 → xs ≡ unpadded xs
+front_solid xs some ne =
+    last xs some
+    ∙ sym (unpadded_end (take (length xs - 1) xs) (get_or xs (length xs - 1) 0) ne)
+    ∙ ap unpadded (sym (last xs some))
 
 -- the spaces are all that is left out
 spaces_are : (xs : List ℕ) → spaces xs ≡ true → xs ≡ replicate (length xs) 32

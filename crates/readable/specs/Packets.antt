@@ -1,5 +1,7 @@
 -- What a packet carries. Its first two bytes say how many follow; the letter comes next, and then what is carried.
 use Rattle.std.specs.Prelude.{◌≡◌, ℕ, ◌<◌, cond, List, ◌∷◌, length, drop, Some, None, Option, ◌==◌, nat_lt, slice_index}
+use Rattle.std.specs.Bool.{then_some}
+use Rattle.std.specs.Option.{option_map, option_or, unwrap_or}
 use Rattle.itch.specs.Feed.{feed_bytes, feed_read, FeedFits}
 use Rattle.itch.specs.declared.feed.FeedMessage.{FeedMessage}
 use Rattle.itch.specs.declared.feed.FeedMessage.TheVariants as message
@@ -25,23 +27,19 @@ payload p = drop 3 p
 abbrev pub accounts : ℕ
 accounts = 16
 
-abbrev pub reply_or : Option (ℕ × Reply) → List ℕ → Carried
-reply_or (Some r) p = cond (nat_lt r.0 accounts) (reply r.0 r.1) (unknown p)
-reply_or None p = unknown p
+abbrev pub reply_of : Option (ℕ × Reply) → Option Carried
+reply_of (Some r) = then_some (nat_lt r.0 accounts) (reply r.0 r.1)
+reply_of None = None
 
 -- A reply begins with its account's number, which is below the letters of the feed.
-abbrev pub feed_or : Option FeedMessage → List ℕ → Carried
-feed_or (Some m) p = feed m
-feed_or None p = reply_or (addressed_read (payload p)) p
-
-abbrev pub message_of : List ℕ → Carried
-message_of p = feed_or (feed_read (payload p)) p
+abbrev pub message_of : List ℕ → Option Carried
+message_of b = option_or (option_map feed (feed_read b)) (reply_of (addressed_read b))
 
 -- S stands for a message or a reply, + for a fault
 abbrev pub packet_of : List ℕ → Carried
 packet_of p =
     cond (nat_lt (length p) 3) (unknown p)
-    (cond (letter p == 83) (message_of p) (cond (letter p == 43) (fault (payload p)) (unknown p)))
+    (cond (letter p == 83) (unwrap_or (message_of (payload p)) (unknown p)) (cond (letter p == 43) (fault (payload p)) (unknown p)))
 
 -- what the code's packet says
 abbrev pub carried : Packet → Carried

@@ -12,9 +12,6 @@ use Rattle.readable.specs.PacketLines.{packet_line}
 abbrev pub wanted : List ℕ → ℕ
 wanted b = cond (nat_lt (length b) 2) 2 (2 + number_from_digits 256 (take 2 b))
 
-abbrev pub first_packet : List ℕ → Option (List ℕ)
-first_packet b = cond (nat_lt (length b) (wanted b)) None (Some (take (wanted b) b))
-
 -- The bytes are the packets one after another, each whole, and then the rest.
 pub record Cut (bytes : List ℕ) (packets : List (List ℕ)) (rest : List ℕ) : Type 0 where
   pub joins : flat_map (λ p. p) packets ++ rest ≡ bytes
@@ -36,16 +33,16 @@ abbrev pub lines : Option ℕ → List (List ℕ) → List ℕ
 lines s [] = []
 lines s (p ∷ ps) = line_of s p ++ lines (second_after s (packet_of p)) ps
 
--- The first n bytes are packets; their lines went behind a text, and the second told last follows them.
-pub record Shown (bytes : List ℕ) (before : Option ℕ) (text : List ℕ) (n : ℕ) (after : Option ℕ) (text' : List ℕ) : Type 0 where
+-- All but a rest is packets; their lines went behind a text, and the second told last follows them.
+pub record Shown (bytes : List ℕ) (before : Option ℕ) (text rest : List ℕ) (after : Option ℕ) (text' : List ℕ) : Type 0 where
   pub packets : List (List ℕ)
-  pub cut : Cut bytes packets (drop n bytes)
+  pub cut : Cut bytes packets rest
   pub second : after ≡ second_after_all before packets
   pub lined : text' ≡ text ++ lines before packets
 
--- the same, and what is left of the bytes is short
+-- the same of the first n bytes, and what is left of them is short
 pub record ShownWhole (bytes : List ℕ) (before : Option ℕ) (text : List ℕ) (n : ℕ) (after : Option ℕ) (text' : List ℕ) : Type 0 where
-  pub shown : Shown bytes before text n after text'
+  pub shown : Shown bytes before text (drop n bytes) after text'
   pub within : n ≤ length bytes
   pub short : Short (drop n bytes)
 

@@ -1,7 +1,7 @@
 -- The time of day.
 use Rattle.std.specs.Prelude.{◌≡◌, ℕ, ◌+◌, ◌*◌, ◌/◌, ◌%◌, ◌<◌, List, ◌++◌, Some, None, codes, Option}
 use Rattle.readable.specs.declared.time.TimeOfDay.{TimeOfDay}
-use Rattle.readable.specs.Figures.{two, nine}
+use Rattle.readable.specs.Figures.{figures}
 
 abbrev pub time_of_day : ℕ → TimeOfDay
 time_of_day s = record { hours = s / 3600; minutes = s % 3600 / 60; seconds = s % 60 }
@@ -14,7 +14,7 @@ pub record Tells (s : ℕ) (t : TimeOfDay) : Type 0 where
 
 -- hh:mm:ss
 abbrev pub clock_text : TimeOfDay → List ℕ
-clock_text t = two t.hours ++ (codes ":" ++ (two t.minutes ++ (codes ":" ++ two t.seconds)))
+clock_text t = figures 2 t.hours ++ (codes ":" ++ (figures 2 t.minutes ++ (codes ":" ++ figures 2 t.seconds)))
 
 abbrev pub second_text : Option ℕ → List ℕ
 second_text None = codes "--:--:--"
@@ -22,7 +22,7 @@ second_text (Some s) = clock_text (time_of_day s)
 
 -- hh:mm:ss.nnnnnnnnn
 abbrev pub moment_text : Option ℕ → ℕ → List ℕ
-moment_text s nanos = second_text s ++ (codes "." ++ nine nanos)
+moment_text s nanos = second_text s ++ (codes "." ++ figures 9 nanos)
 
 -- the same of a whole time, in nanoseconds past midnight
 abbrev pub time_text : ℕ → List ℕ

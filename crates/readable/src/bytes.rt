@@ -1,79 +1,74 @@
 // Bytes one after another, as text or by their hexadecimal digits.
 ghost use Rattle.std.specs.Prelude.{◌≡◌, Some};
-ghost use Rattle.readable.specs.Spelling.{printable, spelt, spelling, unpadded, field_text, TextTells};
+ghost use Rattle.readable.specs.Spelling.{printable, spelt, spelling, hex_bytes, unpadded, field_text, TextTells};
 
-use crate::hex::HexByte;
 use std::fmt;
-
-// How a byte is shown: in a text, by its two digits, or by its two digits as a word of its own.
-#[derive(Clone, Copy)]
-pub enum Form {
-    Text,
-    Hex,
-    HexWord,
-}
 
 // Whether a byte of a text stands for itself.
 fn is_printable(byte: u8) -> bool
     ensures { result ≡ printable byte }
 {
-    b' ' <= byte && byte <= b'~' && byte != b'\\'
+    matches!(byte, b' '..=b'~') && byte != b'\\'
 }
 
-// A byte in such a form.
+// A byte of a text, by its two digits where it does not stand for itself.
 #[derive(Clone, Copy)]
-struct Spelt {
-    form: Form,
-    byte: u8,
-}
+struct Spelt(u8);
 
 impl fmt::Display for Spelt {
-    ghost output = { λ b. Some (spelt b.form b.byte) };
+    ghost output = { λ b. Some (spelt b.0) };
 
+    #[tactic(auto, using(crate::proofs::Spells::two_digits))]
     fn fmt<W: fmt::Write>(&self, f: &mut fmt::Formatter<W>) -> fmt::Result {
-        let digits = HexByte(self.byte);
-        match self.form {
-            Form::Hex => write!(f, "{digits}"),
-            Form::HexWord => write!(f, " {digits}"),
-            Form::Text => {
-                if is_printable(self.byte) {
-                    write!(f, "{}", self.byte as char)
-                } else {
-                    write!(f, "\\x{digits}")
-                }
-            }
+        let byte = self.0;
+        if is_printable(byte) {
+            write!(f, "{}", byte as char)
+        } else {
+            write!(f, "\\x{byte:02X}")
         }
     }
 }
 
-// Bytes in one form, with nothing between.
+// A text, byte by byte.
 #[derive(Clone, Copy)]
-pub struct Bytes<'a> {
-    pub form: Form,
-    pub bytes: &'a [u8],
-}
+pub struct Spelling<'a>(pub &'a [u8]);
 
-impl fmt::Display for Bytes<'_> {
-    ghost output = { λ b. Some (spelling b.form b.bytes.now) };
+impl fmt::Display for Spelling<'_> {
+    ghost output = { λ t. Some (spelling t.0.now) };
 
     fn fmt<W: fmt::Write>(&self, f: &mut fmt::Formatter<W>) -> fmt::Result {
-        let form = self.form;
-        for byte in self.bytes {
-            write!(f, "{}", Spelt { form, byte: *byte })?;
+        for &byte in self.0 {
+            write!(f, "{}", Spelt(byte))?;
+        }
+        Ok(())
+    }
+}
+
+// Bytes by their two digits, each behind the same lead.
+#[derive(Clone, Copy)]
+pub struct Hex<'a>(pub &'static str, pub &'a [u8]);
+
+impl fmt::Display for Hex<'_> {
+    ghost output = { λ h. Some (hex_bytes h.0.now h.1.now) };
+
+    fn fmt<W: fmt::Write>(&self, f: &mut fmt::Formatter<W>) -> fmt::Result {
+        for &byte in self.1 {
+            write!(f, "{}{byte:02X}", self.0)?;
         }
         Ok(())
     }
 }
 
 // A text without the spaces that fill its field up.
+#[tactic(auto, using(crate::proofs::Padding::front_space, crate::proofs::Padding::front_solid))]
 fn unpadded(text: &[u8]) -> &[u8]
     ensures { result.now ≡ unpadded text.now }
 {
-    let mut end = text.len();
-    while end > 0 && text[end - 1] == b' ' {
-        end -= 1;
+    let mut text = text;
+    while let [front @ .., b' '] = text {
+        text = front;
     }
-    &text[0..end]
+    text
 }
 
 // A text field, without the spaces that fill it up.
@@ -84,15 +79,11 @@ impl fmt::Display for Text<'_> {
     ghost output = { λ t. Some (field_text t.0.now) };
 
     fn fmt<W: fmt::Write>(&self, f: &mut fmt::Formatter<W>) -> fmt::Result {
-        let form = Form::Text;
-        let bytes = unpadded(self.0);
-        write!(f, "{}", Bytes { form, bytes })
+        write!(f, "{}", Spelling(unpadded(self.0)))
     }
 }
 
 // Texts for the same field that are shown alike are alike.
-pub fn texts_stand() -> u8
+pub fn texts_stand()
     ensures { TextTells }
-{
-    0
-}
+{}

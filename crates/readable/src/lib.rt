@@ -3,7 +3,6 @@
 
 mod bytes;
 mod figures;
-mod hex;
 pub mod line;
 pub mod messages;
 pub mod packet;

@@ -3,7 +3,7 @@ ghost use Rattle.std.specs.Prelude.{Some};
 ghost use Rattle.readable.specs.Packets.{carried};
 ghost use Rattle.readable.specs.PacketLines.{feed_line, unknown_line, packet_line, OneLine, UnknownNames};
 
-use crate::bytes::{Bytes, Form};
+use crate::bytes::{Hex, Spelling};
 use crate::messages::At;
 use crate::packet::{LENGTH_BYTES, Packet};
 use crate::replies::Told;
@@ -40,15 +40,7 @@ impl fmt::Display for Unknown<'_> {
 
     fn fmt<W: fmt::Write>(&self, f: &mut fmt::Formatter<W>) -> fmt::Result {
         let (size, rest) = self.0.split_at(self.0.len().min(LENGTH_BYTES));
-        let size = Bytes {
-            form: Form::Hex,
-            bytes: size,
-        };
-        let rest = Bytes {
-            form: Form::HexWord,
-            bytes: rest,
-        };
-        write!(f, "? {size}{rest}")
+        write!(f, "? {}{}", Hex("", size), Hex(" ", rest))
     }
 }
 
@@ -67,19 +59,14 @@ impl fmt::Display for Line<'_> {
         match self.packet {
             Packet::Feed(message) => write!(f, "{}", At { second, message }),
             Packet::Reply(account, reply) => write!(f, "account={account} {}", Told(reply)),
-            Packet::Fault(bytes) => {
-                let form = Form::Text;
-                write!(f, "+ {}", Bytes { form, bytes })
-            }
+            Packet::Fault(text) => write!(f, "+ {}", Spelling(text)),
             Packet::Unknown(bytes) => write!(f, "{}", Unknown(bytes)),
         }
     }
 }
 
 // A line stays one line, and that of an unknown packet names all its bytes.
-pub fn lines_stand() -> u8
+pub fn lines_stand()
     ensures one { OneLine }
     ensures names { UnknownNames }
-{
-    0
-}
+{}

@@ -5,29 +5,26 @@ ghost use Rattle.readable.specs.Lines.{book_text, terms_text, seconds_line, even
 use crate::bytes::Text;
 use crate::rate::{Rate, Thousandths};
 use crate::time::{Moment, Second};
-use crate::words::{event_word, side_word, state_word};
+use crate::words::Worded;
 use itch::messages::{
     Directory, EndOfSnapshot, OrderAdded, OrderDeleted, OrderExecuted, OrderReplaced, Seconds,
     SystemEvent, TickSize, TradingState,
 };
 use std::fmt;
 
-// The book that a message speaks of.
+// The book that a message speaks of, by its code and its group.
 #[derive(Clone, Copy)]
-pub struct Book<'a> {
-    pub code: u32,
-    pub group: Text<'a>,
-}
+pub struct Book<'a>(pub u32, pub &'a [u8]);
 
 impl fmt::Display for Book<'_> {
-    ghost output = { λ b. Some (book_text b.code b.group.0.now) };
+    ghost output = { λ b. Some (book_text b.0 b.1.now) };
 
     fn fmt<W: fmt::Write>(&self, f: &mut fmt::Formatter<W>) -> fmt::Result {
-        write!(f, "code={} group={}", self.code, self.group)
+        write!(f, "code={} group={}", self.0, Text(self.1))
     }
 }
 
-// What a directory message says of how its book trades.
+// How a directory message's book trades. A part of its own: the proof of one write with all the fields stays open.
 #[derive(Clone, Copy)]
 struct Terms(Directory);
 
@@ -48,7 +45,7 @@ impl fmt::Display for Terms {
     }
 }
 
-// A message, and the second that was told last before it.
+// A message, and the second that was told last before it. A method for its moment would be as long as the moment.
 #[derive(Clone, Copy)]
 pub struct At<M> {
     pub second: Second,
@@ -74,7 +71,7 @@ impl fmt::Display for At<SystemEvent> {
             f,
             "S {time} group={} event={}",
             Text(&m.group),
-            event_word(m.event)
+            m.event.word()
         )
     }
 }
@@ -101,10 +98,7 @@ impl fmt::Display for At<Directory> {
     fn fmt<W: fmt::Write>(&self, f: &mut fmt::Formatter<W>) -> fmt::Result {
         let m = self.message;
         let time = Moment(self.second, m.nanos);
-        let book = Book {
-            code: m.code,
-            group: Text(&m.group),
-        };
+        let book = Book(m.code, &m.group);
         write!(f, "R {time} {book} isin={} {}", Text(&m.isin), Terms(m))
     }
 }
@@ -115,11 +109,8 @@ impl fmt::Display for At<TradingState> {
     fn fmt<W: fmt::Write>(&self, f: &mut fmt::Formatter<W>) -> fmt::Result {
         let m = self.message;
         let time = Moment(self.second, m.nanos);
-        let book = Book {
-            code: m.code,
-            group: Text(&m.group),
-        };
-        write!(f, "H {time} {book} state={}", state_word(m.state))
+        let book = Book(m.code, &m.group);
+        write!(f, "H {time} {book} state={}", m.state.word())
     }
 }
 
@@ -129,15 +120,12 @@ impl fmt::Display for At<OrderAdded> {
     fn fmt<W: fmt::Write>(&self, f: &mut fmt::Formatter<W>) -> fmt::Result {
         let m = self.message;
         let time = Moment(self.second, m.nanos);
-        let book = Book {
-            code: m.code,
-            group: Text(&m.group),
-        };
+        let book = Book(m.code, &m.group);
         write!(
             f,
             "A {time} order={} side={} quantity={} {book} yield={}",
             m.number,
-            side_word(m.mark),
+            m.mark.word(),
             m.quantity,
             Rate(m.price)
         )

@@ -2,7 +2,6 @@
 ghost use Rattle.std.specs.Prelude.{Some};
 ghost use Rattle.readable.specs.Rates.{thousandths, percent};
 
-use crate::figures::Three;
 use std::fmt;
 
 // A percentage with three decimals.
@@ -12,8 +11,9 @@ pub struct Thousandths(pub u32);
 impl fmt::Display for Thousandths {
     ghost output = { λ n. Some (thousandths n.0) };
 
+    #[tactic(auto, using(crate::proofs::Places::zero_padded))]
     fn fmt<W: fmt::Write>(&self, f: &mut fmt::Formatter<W>) -> fmt::Result {
-        write!(f, "{}.{}", self.0 / 1000, Three(self.0 % 1000))
+        write!(f, "{}.{:03}", self.0 / 1000, self.0 % 1000)
     }
 }
 
@@ -25,11 +25,8 @@ impl fmt::Display for Rate {
     ghost output = { λ y. Some (percent y.0) };
 
     fn fmt<W: fmt::Write>(&self, f: &mut fmt::Formatter<W>) -> fmt::Result {
+        let sign = if self.0 < 0 { "-" } else { "" };
         let size = Thousandths(self.0.unsigned_abs());
-        if self.0 < 0 {
-            write!(f, "-{size}")
-        } else {
-            write!(f, "{size}")
-        }
+        write!(f, "{sign}{size}")
     }
 }

@@ -6,9 +6,7 @@ use crate::bytes::Text;
 use crate::messages::Book;
 use crate::rate::Rate;
 use crate::time::Time;
-use crate::words::{
-    cancel_word, day_event_word, liquidity_word, order_state_word, reject_word, side_word,
-};
+use crate::words::Worded;
 use fields::letters::Side;
 use itch::mark::Mark;
 use ouch::replies::{Accepted, Canceled, Executed, Rejected, Replaced, SystemEvent};
@@ -23,12 +21,11 @@ impl fmt::Display for Letter {
     ghost output = { λ l. Some (letter_text l.0) };
 
     fn fmt<W: fmt::Write>(&self, f: &mut fmt::Formatter<W>) -> fmt::Result {
-        let letter = [self.0];
-        write!(f, "{}", Text(&letter))
+        write!(f, "{}", Text(&[self.0]))
     }
 }
 
-// What an order offers, in which book and at which yield.
+// What an order offers, in which book and at which yield. Two replies name its fields once each: a conversion would be longer.
 #[derive(Clone, Copy)]
 struct Offer<'a> {
     side: Side,
@@ -38,10 +35,10 @@ struct Offer<'a> {
 }
 
 impl fmt::Display for Offer<'_> {
-    ghost output = { λ o. Some (offer_text o.side o.quantity o.book.code o.book.group.0.now o.price) };
+    ghost output = { λ o. Some (offer_text o.side o.quantity o.book.0 o.book.1.now o.price) };
 
     fn fmt<W: fmt::Write>(&self, f: &mut fmt::Formatter<W>) -> fmt::Result {
-        let side = side_word(Mark::of(self.side));
+        let side = Mark::from(self.side).word();
         write!(
             f,
             "side={side} quantity={} {} yield={}",
@@ -86,7 +83,7 @@ impl fmt::Display for Standing {
             "order={} minimum={} state={} classification={} margin={}",
             m.number,
             m.minimum,
-            order_state_word(m.state),
+            m.state.word(),
             Letter(m.classification),
             Letter(m.margin)
         )
@@ -109,7 +106,7 @@ impl fmt::Display for Replacement {
             Letter(m.display),
             m.number,
             m.minimum,
-            order_state_word(m.state),
+            m.state.word(),
             m.previous
         )
     }
@@ -128,7 +125,7 @@ impl fmt::Display for Deal {
             f,
             "yield={} liquidity={} counterparty={} match={}",
             Rate(m.price),
-            liquidity_word(m.liquidity),
+            m.liquidity.word(),
             Text(&m.counterparty),
             m.matched
         )
@@ -144,7 +141,7 @@ impl fmt::Display for Told<SystemEvent> {
 
     fn fmt<W: fmt::Write>(&self, f: &mut fmt::Formatter<W>) -> fmt::Result {
         let m = self.0;
-        write!(f, "S {} event={}", Time(m.time), day_event_word(m.event))
+        write!(f, "S {} event={}", Time(m.time), m.event.word())
     }
 }
 
@@ -153,14 +150,10 @@ impl fmt::Display for Told<Accepted> {
 
     fn fmt<W: fmt::Write>(&self, f: &mut fmt::Formatter<W>) -> fmt::Result {
         let m = self.0;
-        let book = Book {
-            code: m.code,
-            group: Text(&m.group),
-        };
         let offer = Offer {
             side: m.side,
             quantity: m.quantity,
-            book,
+            book: Book(m.code, &m.group),
             price: m.price,
         };
         write!(
@@ -180,14 +173,10 @@ impl fmt::Display for Told<Replaced> {
 
     fn fmt<W: fmt::Write>(&self, f: &mut fmt::Formatter<W>) -> fmt::Result {
         let m = self.0;
-        let book = Book {
-            code: m.code,
-            group: Text(&m.group),
-        };
         let offer = Offer {
             side: m.side,
             quantity: m.quantity,
-            book,
+            book: Book(m.code, &m.group),
             price: m.price,
         };
         write!(
@@ -211,7 +200,7 @@ impl fmt::Display for Told<Canceled> {
             Time(m.time),
             m.token,
             m.quantity,
-            cancel_word(m.reason)
+            m.reason.word()
         )
     }
 }
@@ -242,7 +231,7 @@ impl fmt::Display for Told<Rejected> {
             "J {} token={} reason={}",
             Time(m.time),
             m.token,
-            reject_word(m.reason)
+            m.reason.word()
         )
     }
 }

@@ -1,13 +1,12 @@
 // A stream of packets that comes in pieces, and the lines of those that have come whole.
 ghost use Rattle.std.specs.Prelude.{◌≡◌, [], ◌++◌, IfOk, Some, string_bytes, OnOk};
-ghost use Rattle.std.specs.Option.{option_map};
 ghost use Rattle.readable.specs.Packets.{packet_of, second_after};
-ghost use Rattle.readable.specs.Streams.{wanted, first_packet, line_of, ShownWhole, SoFar, GoesOn, CutOnce, FramedCut, truncation, truncated_line};
+ghost use Rattle.readable.specs.Streams.{wanted, line_of, ShownWhole, SoFar, GoesOn, CutOnce, FramedCut, truncation, truncated_line};
 
 use crate::line::Line;
 use crate::packet::{LENGTH_BYTES, Packet};
 use crate::time::Second;
-use fields::reading::u16_at;
+use fields::field::at;
 use std::alloc::Global;
 use std::{fmt, io};
 
@@ -18,18 +17,7 @@ pub fn wanted(bytes: &[u8]) -> usize
     if bytes.len() < LENGTH_BYTES {
         return LENGTH_BYTES;
     }
-    LENGTH_BYTES + usize::from(u16_at(bytes, 0))
-}
-
-// The packet at the front of a stream, once all of it has come.
-fn first_packet(bytes: &[u8]) -> Option<&[u8]>
-    ensures { option_map (λ x. x.now) result ≡ first_packet bytes.now }
-{
-    let end = wanted(bytes);
-    if bytes.len() < end {
-        return None;
-    }
-    Some(&bytes[0..end])
+    LENGTH_BYTES + usize::from(at::<u16>(bytes, 0))
 }
 
 // The line of a packet goes behind `text`, and `second` follows what the packet tells.
@@ -51,12 +39,12 @@ fn show_packet(bytes: &[u8], second: &mut Second, text: &mut String) -> fmt::Res
 fn show_whole(bytes: &[u8], second: &mut Second, text: &mut String) -> Result<usize, fmt::Error>
     ensures { IfOk result (λ n. ShownWhole bytes.now second.old.0 (string_bytes text.old) n second.new.0 (string_bytes text.new)) }
 {
-    let mut at = 0;
-    while let Some(packet) = first_packet(&bytes[at..]) {
+    let mut rest = bytes;
+    while let Some((packet, behind)) = rest.split_at_checked(wanted(rest)) {
         show_packet(packet, second, text)?;
-        at += packet.len();
+        rest = behind;
     }
-    Ok(at)
+    Ok(bytes.len() - rest.len())
 }
 
 // What a stream has of a packet that has not come whole.
@@ -97,8 +85,7 @@ impl Stream {
     {
         self.pending.extend_from_slice(bytes)?;
         let shown = show_whole(self.pending.as_slice(), &mut self.second, text)?;
-        let rest = self.pending.split_off(shown)?;
-        self.pending = rest;
+        self.pending.drain(..shown);
         Ok(())
     }
 
@@ -106,21 +93,18 @@ impl Stream {
     pub fn truncated(&self) -> Option<Truncated>
         ensures { result ≡ truncation self.now.pending.items }
     {
-        let have = self.pending.len();
-        if have == 0 {
+        if self.pending.is_empty() {
             return None;
         }
         Some(Truncated {
-            have,
+            have: self.pending.len(),
             whole: wanted(self.pending.as_slice()),
         })
     }
 }
 
 // A stream is cut into packets in one way, and packets laid one behind another are cut into just those.
-pub fn streams_stand() -> u8
+pub fn streams_stand()
     ensures once { CutOnce }
     ensures framed { FramedCut }
-{
-    0
-}
+{}

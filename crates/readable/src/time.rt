@@ -3,14 +3,13 @@
 ghost use Rattle.std.specs.Prelude.{◌≡◌, ◌^◌, ◌<◌, Some};
 ghost use Rattle.readable.specs.Times.{time_of_day, Tells, clock_text, second_text, moment_text, time_text};
 
-use crate::figures::{Nine, Two};
 use std::fmt;
 
 const MINUTE: u64 = 60;
 
 const HOUR: u64 = 60 * MINUTE;
 
-// In nanoseconds.
+// In nanoseconds. Said here too: the reader stands on the messages alone.
 const SECOND: u64 = 1_000_000_000;
 
 // A second of the day, by the clock.
@@ -38,13 +37,12 @@ impl TimeOfDay {
 impl fmt::Display for TimeOfDay {
     ghost output = { λ t. Some (clock_text t) };
 
+    #[tactic(auto, using(crate::proofs::Places::zero_padded))]
     fn fmt<W: fmt::Write>(&self, f: &mut fmt::Formatter<W>) -> fmt::Result {
         write!(
             f,
-            "{}:{}:{}",
-            Two(self.hours),
-            Two(self.minutes),
-            Two(self.seconds)
+            "{:02}:{:02}:{:02}",
+            self.hours, self.minutes, self.seconds
         )
     }
 }
@@ -71,8 +69,9 @@ pub struct Moment(pub Second, pub u32);
 impl fmt::Display for Moment {
     ghost output = { λ m. Some (moment_text m.0.0 m.1) };
 
+    #[tactic(auto, using(crate::proofs::Places::zero_padded))]
     fn fmt<W: fmt::Write>(&self, f: &mut fmt::Formatter<W>) -> fmt::Result {
-        write!(f, "{}.{}", self.0, Nine(self.1))
+        write!(f, "{}.{:09}", self.0, self.1)
     }
 }
 
@@ -83,9 +82,10 @@ pub struct Time(pub u64);
 impl fmt::Display for Time {
     ghost output = { λ t. Some (time_text t.0) };
 
+    #[tactic(auto, using(crate::proofs::Places::zero_padded))]
     fn fmt<W: fmt::Write>(&self, f: &mut fmt::Formatter<W>) -> fmt::Result {
         let second = TimeOfDay::of(self.0 / SECOND);
-        let nanos = (self.0 % SECOND) as u32;
-        write!(f, "{second}.{}", Nine(nanos))
+        let nanos = self.0 % SECOND;
+        write!(f, "{second}.{nanos:09}")
     }
 }

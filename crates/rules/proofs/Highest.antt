@@ -1,24 +1,28 @@
--- How the row for a yield is found, from the last row of a table to the first.
-use Rattle.std.proofs.Common.{◌≡◌, ℕ, ◌+◌, ◌-◌, ◌<◌, ◌≤◌, Bool, true, false, cond, ◌&&◌, eqb, List, length, get_or, drop, ℤ, int_le, Some, Option, ◌∙◌, arith}
-use Rattle.std.proofs.lemmas.List.{at_drop_more}
+-- The row for a yield is the last that a walk from the last row of a table to the first leaves.
+use Rattle.std.proofs.Common.{◌≡◌, ℕ, Bool, cond, true, false, ◌&&◌, ◌==◌, List, [], ◌∷◌, reverse, ℤ, int_le, None, Some, Option, refl, ap, ◌∙◌}
+use Rattle.std.specs.List.{fold, filter}
+use Rattle.std.proofs.lemmas.List.{reverse-append}
+use Rattle.std.proofs.lemmas.List.Elements.{filter-append}
+use Rattle.std.proofs.lemmas.List.Sums.{fold-append}
 use Rattle.rules.specs.declared.tables.TickRow.{TickRow}
 use Rattle.rules.specs.Ticks.{higher, tick_row}
 
+abbrev pub keep : Option TickRow → TickRow → Option TickRow
+keep best r = Some (higher r best)
+
+step : (b : Bool) (r : TickRow) (best : Option TickRow) → fold keep best (cond b (r ∷ []) []) ≡ cond b (Some (higher r best)) best
+step true r best = refl
+step false r best = refl
+
 module _ (table : ℕ) (y : ℤ) where
-  abbrev reaches : TickRow → Bool
-  reaches r = eqb r.table table && int_le r.start y
+  abbrev pub reaches : TickRow → Bool
+  reaches r = r.table == table && int_le r.start y
 
-  module _ (rows : List TickRow) (k : ℕ) (d : TickRow) (best : Option TickRow) where
-    step : (b : Bool) → 0 < k → k ≤ length rows → b ≡ reaches (get_or rows (k - 1) d) → best ≡ tick_row table y (drop k rows)
-        → tick_row table y (drop (k - 1) rows) ≡ cond b (Some (higher (get_or rows (k - 1) d) best)) best
-    step b above within t e =
-        let next : k - 1 + 1 ≡ k = omega arith in
-        at_drop_more (tick_row table y) rows (k - 1) d (omega arith) ∙ rw (← t, next, ← e)
-
-    pub row_here : 0 < k → k ≤ length rows → true ≡ reaches (get_or rows (k - 1) d) → best ≡ tick_row table y (drop k rows)
-        → tick_row table y (drop (k - 1) rows) ≡ Some (higher (get_or rows (k - 1) d) best)
-    row_here = step true
-
-    pub row_before : 0 < k → k ≤ length rows → false ≡ reaches (get_or rows (k - 1) d) → best ≡ tick_row table y (drop k rows)
-        → tick_row table y (drop (k - 1) rows) ≡ best
-    row_before = step false
+  pub from_last : (rows : List TickRow) → fold keep None (filter reaches (reverse rows)) ≡ tick_row table y rows
+  from_last [] = refl
+  from_last (r ∷ rs) =
+      ap (λ (zs : List TickRow). fold keep None (filter reaches zs)) (reverse-append (r ∷ []) rs)
+      ∙ ap (fold keep None) (filter-append reaches (reverse rs) (r ∷ []))
+      ∙ fold-append keep None (filter reaches (reverse rs)) (filter reaches (r ∷ []))
+      ∙ ap (λ (best : Option TickRow). fold keep best (filter reaches (r ∷ []))) (from_last rs)
+      ∙ step (reaches r) r (tick_row table y rs)

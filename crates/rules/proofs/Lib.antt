@@ -1,4 +1,1 @@
-pub mod Adjusts
 pub mod Highest
-pub mod Searches
-pub mod Tokens

@@ -1,14 +1,13 @@
 -- The loaded tables: what they hold, and how a book or an account is found.
 use Rattle.std.specs.Prelude.{ℕ, Bool, true, false, List, replicate, ℤ, pos, Option, ◌==◌, slice_index_or, slice_set}
 use Rattle.std.specs.Str.{bytes_eq}
+use Rattle.std.specs.List.{find}
 use Rattle.std.specs.Option.{unwrap_or}
 use Rattle.fields.specs.declared.letters.BookState.{BookState}
 use Rattle.fields.specs.declared.letters.BookState.TheVariants.{Trading, Suspended}
 use Rattle.rules.specs.declared.tables.Account.{Account}
 use Rattle.rules.specs.declared.tables.Book.{Book}
-use Rattle.rules.specs.declared.tables.BookChange.{BookChange}
-use Rattle.rules.specs.declared.tables.BookChange.TheVariants as change
-use Rattle.rules.specs.Register.{first, adjusted}
+use Rattle.rules.specs.Register.{adjusted}
 
 -- ---- books, under the code
 
@@ -16,7 +15,7 @@ abbrev pub is_book : ℕ → Book → Bool
 is_book code b = b.code == code
 
 abbrev pub book_under : ℕ → List Book → Option Book
-book_under code books = first (is_book code) books
+book_under code books = find (is_book code) books
 
 -- what stands in for a book that is not loaded: a suspended one with nothing in it
 abbrev pub no_book : Book
@@ -39,10 +38,6 @@ with_state s b = record { code = b.code; isin = b.isin; lot = b.lot; table = b.t
 
 abbrev pub with_reference : ℤ → Book → Book
 with_reference y b = record { code = b.code; isin = b.isin; lot = b.lot; table = b.table; upper = b.upper; lower = b.lower; state = b.state; reference = y }
-
-abbrev pub changed_by : BookChange → Book → Book
-changed_by (change.State s) b = with_state s b
-changed_by (change.Reference y) b = with_reference y b
 
 -- the book under a code has a new state, or a new reference yield
 abbrev pub state_set : ℕ → BookState → List Book → List Book

@@ -70,12 +70,13 @@ impl From<Fault> for FileFault {
     }
 }
 
-impl Fault {
-    pub fn number(self) -> u8
-        ensures { result ≡ number self }
-    {
-        match self {
-            Fault::Message(f) => f.number(),
+// The number by which the fault goes.
+impl From<Fault> for u8 {
+    ghost from_gives = { λ f n. n ≡ number f };
+
+    fn from(fault: Fault) -> u8 {
+        match fault {
+            Fault::Message(f) => u8::from(f),
             Fault::Time => 6,
             Fault::Account => 7,
             Fault::Clock => 8,
@@ -86,10 +87,24 @@ impl Fault {
             Fault::FeedPlaces => 13,
             Fault::ReplyPlaces => 14,
             Fault::Load => 15,
-            Fault::Line(refusal) => refusal.number(),
+            Fault::Line(refusal) => u8::from(refusal),
         }
     }
+}
 
+impl From<FileFault> for u8 {
+    ghost from_gives = { λ f n. n ≡ file_number f };
+
+    fn from(fault: FileFault) -> u8 {
+        match fault {
+            FileFault::Malformed => 1,
+            FileFault::Truncated => 2,
+            FileFault::Engine(f) => u8::from(f),
+        }
+    }
+}
+
+impl Fault {
     pub fn layer(self) -> Layer
         ensures { result ≡ engine_layer self }
     {
@@ -104,16 +119,6 @@ impl Fault {
 const BEFORE_MESSAGE: u128 = 1 + 2 + 8 + 1;
 
 impl FileFault {
-    pub fn number(self) -> u8
-        ensures { result ≡ file_number self }
-    {
-        match self {
-            FileFault::Malformed => 1,
-            FileFault::Truncated => 2,
-            FileFault::Engine(f) => f.number(),
-        }
-    }
-
     pub fn layer(self) -> Layer
         ensures { result ≡ layer_of self }
     {

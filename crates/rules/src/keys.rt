@@ -1,10 +1,11 @@
 // The keys under which tick rows, books and accounts are found.
-ghost use Rattle.std.specs.Prelude.{◌≡◌};
+ghost use Rattle.std.specs.Prelude.{◌≡◌, is_some};
+ghost use Rattle.std.specs.List.{find};
 ghost use Rattle.rules.specs.Loading.{is_row, of_table};
-ghost use Rattle.rules.specs.Table.{filled};
 ghost use Rattle.rules.specs.Tables.{is_book, is_account, book_under, book_or};
 
 use crate::register::{Keyed, Register};
+use crate::table::Table;
 use crate::tables::{Account, Book, Books, NO_BOOK, TickRow};
 
 // A tick table has one row for a start.
@@ -50,16 +51,27 @@ impl Keyed<[u8; 12]> for Account {
     }
 }
 
+impl<T: Copy, const N: usize> Table<T, N> {
+    // Whether a record of the table has the key.
+    pub fn has<K>(&self, key: &K) -> bool
+    where
+        T: Keyed<K>,
+        ensures { result ≡ is_some (find (λ x. T.has x key.now) self.now) }
+    {
+        Register::over(self.as_slice()).find(key).is_some()
+    }
+}
+
 impl Books {
     pub fn find(&self, code: u32) -> Option<Book>
-        ensures { result ≡ book_under code (filled self.now) }
+        ensures { result ≡ book_under code self.now }
     {
         Register::over(self.as_slice()).find(&code).copied()
     }
 
     // A suspended book with nothing in it stands in for one that is not loaded.
     pub fn find_or_blank(&self, code: u32) -> Book
-        ensures { result ≡ book_or code (filled self.now) }
+        ensures { result ≡ book_or code self.now }
     {
         self.find(code).unwrap_or(NO_BOOK)
     }

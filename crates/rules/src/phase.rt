@@ -20,7 +20,8 @@ pub enum Phase {
 }
 
 impl Phase {
-    // Goes where the letter of an event leads, and says whether it leads anywhere.
+    // Goes where the letter of an event leads, and says whether it leads anywhere. The phase moves in place: a test asks a
+    // copy of it.
     pub fn step(&mut self, letter: u8) -> bool
         ensures answer { result ≡ is_some (step self.old letter) }
         ensures after { self.new ≡ unwrap_or (step self.old letter) self.old }

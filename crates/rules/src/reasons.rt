@@ -2,7 +2,6 @@
 ghost use Rattle.std.specs.Prelude.{◌≡◌, ◌&&◌, ◌||◌, ◌==◌};
 ghost use Rattle.ouch.specs.Inbound.{entered};
 ghost use Rattle.rules.specs.Reasons.{immediate, for_day, post_only, bad_force, bad_display, bad_lots, bad_minimum, bad_letters, known_book, enter_reason, balance, bad_total, replace_reason};
-ghost use Rattle.rules.specs.Table.{filled};
 
 use crate::phase::Phase;
 use crate::tables::{Book, Books, GROUP, TickRows};
@@ -33,6 +32,7 @@ const MARGIN: u8 = b'1';
 
 // ---- what is asked of both
 
+// Each test is one comparison under the rule's name; one function over the constants would say no more.
 pub fn is_immediate(force: u32) -> bool
     ensures { result ≡ immediate force }
 {
@@ -84,14 +84,14 @@ fn bad_minimum(minimum: u32, force: u32, quantity: u32) -> bool
 fn bad_letters(order: &Enter<'_>) -> bool
     ensures { result ≡ bad_letters (entered order.now) }
 {
-    Side::read(order.side).is_none()
+    Side::try_from(order.side).is_err()
         || !matches!(order.capacity, b'A' | b'P')
         || !matches!(order.classification, b'1' | b'3' | b'4' | b'5' | b'6')
 }
 
 // Whether the book is loaded, and the group named is its own.
 fn known_book(books: &Books, order: &Enter<'_>) -> bool
-    ensures { result ≡ known_book (filled books.now) (entered order.now) }
+    ensures { result ≡ known_book books.now (entered order.now) }
 {
     books.find(order.code).is_some() && order.group == GROUP
 }
@@ -109,7 +109,9 @@ fn lacks_place(full: bool, force: u32) -> bool
     is_for_day(force) && full
 }
 
-// Why an order cannot be entered; `full` says that the store has no place for one more.
+// Why an order cannot be entered; `full` says that the store has no place for one more. A reason is what the account is
+// told, and no fault of the call: an Option, and no Result. Phase, rows and books are the market's fields, and a Replace
+// takes the book alone: a struct of them would be made for each call only to be taken apart.
 pub fn enter_reason(
     phase: Phase,
     rows: &TickRows,
@@ -117,7 +119,7 @@ pub fn enter_reason(
     full: bool,
     order: &Enter<'_>,
 ) -> Option<RejectReason>
-    ensures { result ≡ enter_reason phase (filled rows.now) (filled books.now) full (entered order.now) }
+    ensures { result ≡ enter_reason phase rows.now books.now full (entered order.now) }
 {
     let book = books.find_or_blank(order.code);
     if !phase.in_session() {
@@ -173,7 +175,7 @@ pub fn replace_reason(
     executed: u32,
     order: Replace,
 ) -> Option<CancelReason>
-    ensures { result ≡ replace_reason phase (filled rows.now) book executed order }
+    ensures { result ≡ replace_reason phase rows.now book executed order }
 {
     if !phase.in_session() || book.is_suspended() {
         Some(CancelReason::NotNow)

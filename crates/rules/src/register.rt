@@ -1,7 +1,7 @@
 // A register finds a record by its key, whatever the record and the key are.
 ghost use Rattle.std.specs.Prelude.{◌≡◌, Bool};
+ghost use Rattle.std.specs.List.{find};
 ghost use Rattle.std.specs.Option.{option_map};
-ghost use Rattle.rules.specs.Register.{first};
 
 // A record that can be found by a key of type K.
 pub trait Keyed<K> {
@@ -27,13 +27,8 @@ impl<'a, R> Register<'a, R> {
     pub fn find<K>(&self, key: &K) -> Option<&'a R>
     where
         R: Keyed<K>,
-        ensures { option_map (λ x. x.now) result ≡ first (λ x. R.has x key.now) self.now.records.now }
+        ensures { option_map (λ x. x.now) result ≡ find (λ x. R.has x key.now) self.now.records.now }
     {
-        for x in self.records {
-            if x.has_key(key) {
-                return Some(x);
-            }
-        }
-        None
+        self.records.iter().find(|x| x.has_key(key))
     }
 }

@@ -1,8 +1,6 @@
 // What is loaded before a day begins.
 ghost use Rattle.std.specs.Prelude.{◌≡◌};
-ghost use Rattle.rules.specs.Register.{adjusted};
-ghost use Rattle.rules.specs.Table.{filled};
-ghost use Rattle.rules.specs.Tables.{account_at, is_book, suspended, changed_by, state_set, reference_set};
+ghost use Rattle.rules.specs.Tables.{account_at, suspended};
 
 use crate::table::Table;
 use fields::letters::BookState;
@@ -15,7 +13,8 @@ pub struct TickRow {
     pub start: i32,
 }
 
-// A book as it is handed in. Its state is a letter, which may be wrong.
+// A book as it is handed in. Its state is a letter, which may be wrong. A type beside `Book`, and not one over the state:
+// what is handed in and what is loaded are never taken for each other.
 #[derive(Clone, Copy)]
 pub struct Listing {
     pub code: u32,
@@ -90,65 +89,19 @@ pub const NO_ACCOUNT: Account = Account {
     last: 0,
 };
 
-// What of a book can change during the day.
-#[derive(Clone, Copy)]
-enum BookChange {
-    State(BookState),
-    Reference(i32),
-}
-
 impl Book {
     pub fn is_suspended(self) -> bool
         ensures { result ≡ suspended self }
     {
         matches!(self.state, BookState::Suspended)
     }
-
-    fn changed(self, change: BookChange) -> Book
-        ensures { result ≡ changed_by change self }
-    {
-        match change {
-            BookChange::State(state) => Book { state, ..self },
-            BookChange::Reference(reference) => Book { reference, ..self },
-        }
-    }
-}
-
-impl Books {
-    pub fn set_state(&mut self, code: u32, state: BookState)
-        ensures { filled self.new ≡ state_set code state (filled self.old) }
-    {
-        self.change(code, BookChange::State(state));
-    }
-
-    pub fn set_reference(&mut self, code: u32, rate: i32)
-        ensures { filled self.new ≡ reference_set code rate (filled self.old) }
-    {
-        self.change(code, BookChange::Reference(rate));
-    }
-
-    // Changes each book under the code; no second one is loaded.
-    fn change(&mut self, code: u32, change: BookChange)
-        ensures { filled self.new ≡ adjusted (is_book code) (changed_by change) (filled self.old) }
-    {
-        for k in 0..self.len() {
-            let book = self.as_slice()[k];
-            if book.code == code {
-                self.set(k, book.changed(change));
-            }
-        }
-    }
 }
 
 impl Accounts {
     // The account of a number; one with a blank name stands in for one that is not loaded.
     pub fn at(&self, k: usize) -> Account
-        ensures { result ≡ account_at k (filled self.now) }
+        ensures { result ≡ account_at k self.now }
     {
-        if k < self.len() {
-            self.as_slice()[k]
-        } else {
-            NO_ACCOUNT
-        }
+        self.as_slice().get(k).copied().unwrap_or(NO_ACCOUNT)
     }
 }

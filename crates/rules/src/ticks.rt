@@ -1,6 +1,5 @@
 // The yields that a book takes: within its limits, and on a tick of its table.
 ghost use Rattle.std.specs.Prelude.{◌≡◌, ◌&&◌, ◌-ℤ◌, ◌==◌, int_le};
-ghost use Rattle.rules.specs.Table.{filled};
 ghost use Rattle.rules.specs.Ticks.{multiple, higher, tick_row, on_tick, within_limits, bad_yield};
 
 use crate::tables::{Book, TickRow, TickRows};
@@ -32,7 +31,7 @@ impl TickRow {
         self.table == table && self.start <= rate
     }
 
-    // The row that starts higher; this one where both start alike.
+    // The row that starts higher; this one where both start alike. The guard says which of the two stays.
     fn or_higher(self, other: Option<TickRow>) -> TickRow
         ensures { result ≡ higher self other }
     {
@@ -46,37 +45,32 @@ impl TickRow {
 impl TickRows {
     // The row of a table for a yield: the greatest start at or below it.
     pub fn row_for(&self, table: u32, rate: i32) -> Option<TickRow>
-        ensures { result ≡ tick_row table rate (filled self.now) }
+        ensures { result ≡ tick_row table rate self.now }
     {
-        let rows = self.as_slice();
-        let mut best = None;
-        for k in (0..rows.len()).rev() {
-            let row = rows[k];
-            if row.reaches(table, rate) {
-                best = Some(row.or_higher(best));
-            }
-        }
-        best
+        self.as_slice()
+            .iter()
+            .rev()
+            .filter(|row| row.reaches(table, rate))
+            .fold(None, |best, row| Some(row.or_higher(best)))
     }
 
     fn has_tick(&self, table: u32, rate: i32) -> bool
-        ensures { result ≡ on_tick rate (tick_row table rate (filled self.now)) }
+        ensures { result ≡ on_tick rate (tick_row table rate self.now) }
     {
-        match self.row_for(table, rate) {
-            Some(row) => row.allows(rate),
-            None => false,
-        }
+        self.row_for(table, rate)
+            .is_some_and(|row| row.allows(rate))
     }
 
     // Whether a yield is outside a book's limits, without a tick row, or off tick.
     pub fn refuses_yield(&self, book: Book, rate: i32) -> bool
-        ensures { result ≡ bad_yield (filled self.now) book rate }
+        ensures { result ≡ bad_yield self.now book rate }
     {
         !book.is_within_limits(rate) || !self.has_tick(book.table, rate)
     }
 }
 
 impl Book {
+    // Two comparisons: with the range's `contains` the proof did not close.
     fn is_within_limits(self, rate: i32) -> bool
         ensures { result ≡ within_limits self rate }
     {

@@ -1,60 +1,60 @@
--- One step of a withdrawal: the record at k goes to the other store, or stays, or the list is at its end.
-use Rattle.std.proofs.Common.{◌≡◌, ℕ, suc, ◌+◌, ◌<◌, ◌≤◌, eqb, List, [], ◌∷◌, ◌++◌, length, take, drop, Some, sym, ap, ◌∙◌, inl, inr, append_assoc, append-nil, add-one, arith, length-append}
-use Rattle.std.proofs.lemmas.List.Edits.{length-remove}
-use Rattle.std.proofs.lemmas.List.{take_all, drop_all, take_at, drop_at, length-take-le}
-use Rattle.std.proofs.lemmas.Bool.{cases_Bool, lt-ltb, eq-eqb, ne_eqb}
-use Rattle.std.specs.List.{remove, slice_get}
-use Rattle.store.proofs.Places.{nth_within, nth_drop, nth_take}
-use Rattle.store.specs.Records.{appended, those, without}
+-- One turn of a withdrawal: the first record of the account goes to the other store, or there is none left.
+use Rattle.std.proofs.Common.{◌≡◌, ℕ, suc, ◌+◌, ◌<◌, ◌≤◌, Bool, true, false, cond, eqb, List, [], ◌∷◌, ◌++◌, length, Option, Some, None, refl, ap, ◌∙◌, append_assoc, arith, length-append}
+use Rattle.std.proofs.lemmas.Bool.{lt-ltb}
+use Rattle.std.specs.List.{remove, find, enumerate_from}
+use Rattle.store.specs.Records.{appended, first_of, those, without}
 use Rattle.store.specs.declared.record.Record.{Record}
 
-pub those_fewer : (account : ℕ) (xs : List Record) → length (those account xs) ≤ length xs
-those_fewer account [] = omega arith
-those_fewer account (x ∷ xs) =
-    let l = those_fewer account xs in
-    elim (cases_Bool (eqb x.account account)) [ inl h ↦ rw h (omega arith) | inr h ↦ rw h (omega arith) ]
+module _ (account : ℕ) where
+  -- the account's first record from place i on, with its place
+  abbrev pub first : ℕ → List Record → Option (ℕ × Record)
+  first i xs = find (λ p. eqb p.1.account account) (enumerate_from i xs)
 
-module _ (account : ℕ) (xs : List Record) (k : ℕ) where
-  module _ (x : Record) (e : slice_get xs k ≡ Some x) where
-    -- the record at k is the account's, and the list is ys without it
-    module _ (ys : List Record) (f : ys ≡ remove xs k) where
-      pub fewer_here : length ys + 1 ≡ length xs
-      fewer_here = rw f (length-remove xs k (nth_within xs k x e))
+  -- x stands at place j and is the account's first: ys is the list without it
+  pub record Taken (xs : List Record) (x : Record) (ys : List Record) : Type 0 where
+    pub fewer : length ys + 1 ≡ length xs
+    pub left : without account ys ≡ without account xs
+    pub gone : x ∷ those account ys ≡ those account xs
 
-      rest_here : drop k ys ≡ drop (k + 1) xs
-      rest_here =
-          let l = nth_within xs k x e in
-          ap (drop k) f ∙ drop_at (take k xs) (drop (suc k) xs) k (length-take-le k xs (omega arith)) ∙ ap (λ j. drop j xs) (sym (add-one k))
+  taken_from : (xs : List Record) (i k : ℕ) (x : Record) → first i xs ≡ Some (k, x) → (j : ℕ) × (k ≡ i + j) × Taken xs x (remove xs j)
+  taken_from [] i k x e = let z : ◌≡◌ {A = ℕ} 0 1 = cc in absurd (omega arith)
+  taken_from (y ∷ ys) i k x e = by (eqb y.account account) refl e (taken_from ys (i + 1) k x)
+    where
+      by :
+          (b : Bool) → eqb y.account account ≡ b → cond b (Some (i, y)) (first (i + 1) ys) ≡ Some (k, x) →
+          (first (i + 1) ys ≡ Some (k, x) → (j : ℕ) × (k ≡ i + 1 + j) × Taken ys x (remove ys j)) →
+          (j : ℕ) × (k ≡ i + j) × Taken (y ∷ ys) x (remove (y ∷ ys) j)
+      by true h f more =
+          let here : ◌≡◌ {A = ℕ × Record} (i, y) (k, x) = cc in
+          let place : i ≡ k = ap (λ p. p.0) here in
+          let is : y ≡ x = ap (λ p. p.1) here in
+          (0, omega arith, record { fewer = omega arith; left = rw h refl; gone = rw (h, is) refl })
+      by false h f more =
+          let (j, s, t) = more f in
+          (suc j, omega arith, record { fewer = omega (arith, t.fewer); left = rw h (ap (λ zs. y ∷ zs) t.left); gone = rw h t.gone })
 
-      module _ (h : x.account ≡ account) where
-        pub gone_here : take k ys ++ without account (drop k ys) ≡ take k xs ++ without account (drop k xs)
-        gone_here =
-            let l = nth_within xs k x e in
-            let t : take k ys ≡ take k xs = ap (take k) f ∙ take_at (take k xs) (drop (suc k) xs) k (length-take-le k xs (omega arith)) in
-            rw (t, rest_here, nth_drop xs k x e, eq-eqb x.account account h)
+  pub taken : (xs : List Record) (k : ℕ) (x : Record) → first_of account xs ≡ Some (k, x) → Taken xs x (remove xs k)
+  taken xs k x e = let (j, s, t) = taken_from xs 0 k x e in let is : j ≡ k = omega arith in rw is at t
 
-        those_here : those account (drop k xs) ≡ x ∷ those account (drop k ys)
-        those_here = rw (rest_here, nth_drop xs k x e, eq-eqb x.account account h)
+  -- it goes to the end of the other store, which has a place for all
+  pub moved : (xs : List Record) (x : Record) (ys : List Record) → Taken xs x ys → (room : ℕ) (ws vs all : List Record) → vs ≡ appended room ws x → length all ≤ room → ws ++ those account xs ≡ all → vs ++ those account ys ≡ all
+  moved xs x ys t room ws vs all a fits w =
+      let whole = ap (λ zs. ws ++ zs) t.gone ∙ w in
+      let n = ap length whole in
+      let free : length ws < room = omega (arith, simp length-append at n) in
+      rw (a, lt-ltb (length ws) room free, append_assoc) whole
 
-        -- it is the next of those that go to the other store, which has a place for all of them
-        pub moved_here : (room : ℕ) (ws vs all : List Record) → vs ≡ appended room ws x → length all ≤ room → ws ++ those account (drop k xs) ≡ all → vs ++ those account (drop k ys) ≡ all
-        moved_here room ws vs all a m w =
-            let n = ap length (ap (λ zs. ws ++ zs) (sym those_here) ∙ w) in
-            let free : length ws < room = omega (arith, simp length-append at n) in
-            rw (a, lt-ltb (length ws) room free, append_assoc, sym those_here) w
+  -- none is left
+  none_from : (xs : List Record) (i : ℕ) → first i xs ≡ None → (without account xs ≡ xs) × (those account xs ≡ [])
+  none_from [] i e = (refl, refl)
+  none_from (y ∷ ys) i e = by (eqb y.account account) refl e (none_from ys (i + 1))
+    where
+      by :
+          (b : Bool) → eqb y.account account ≡ b → cond b (Some (i, y)) (first (i + 1) ys) ≡ None →
+          (first (i + 1) ys ≡ None → (without account ys ≡ ys) × (those account ys ≡ [])) →
+          (without account (y ∷ ys) ≡ y ∷ ys) × (those account (y ∷ ys) ≡ [])
+      by true h f more = let z : ◌≡◌ {A = ℕ} 0 1 = cc in absurd (omega arith)
+      by false h f more = let m = more f in (rw h (ap (λ zs. y ∷ zs) m.0), rw h m.1)
 
-    -- it is another's
-    module _ (h : x.account ≡ account → ⊥) where
-      pub kept_here : take (k + 1) xs ++ without account (drop (k + 1) xs) ≡ take k xs ++ without account (drop k xs)
-      kept_here = rw (nth_take xs k x e, append_assoc, nth_drop xs k x e, ne_eqb x.account account h)
-
-      pub passed_here : those account (drop (k + 1) xs) ≡ those account (drop k xs)
-      passed_here = rw (nth_drop xs k x e, ne_eqb x.account account h)
-
-  -- the list is at its end
-  module _ (h : length xs ≤ k) where
-    pub kept_end : xs ≡ take k xs ++ without account (drop k xs)
-    kept_end = rw (drop_all k xs h, take_all k xs h, append-nil)
-
-    pub moved_end : (ws : List Record) → ws ≡ ws ++ those account (drop k xs)
-    moved_end ws = rw (drop_all k xs h, append-nil)
+  pub none_left : (xs : List Record) → first_of account xs ≡ None → (without account xs ≡ xs) × (those account xs ≡ [])
+  none_left xs e = none_from xs 0 e

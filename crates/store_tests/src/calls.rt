@@ -41,6 +41,7 @@ pub enum Call {
 }
 
 #[derive(Clone, Copy, PartialEq, Debug)]
+// One type for the answers of all calls, so that a table holds them; refusals by their numbers.
 pub enum Answer {
     Done,
     // a refusal's number
@@ -58,14 +59,14 @@ pub struct Turn<'a>(pub Call, pub Answer, pub &'a [u64]);
 fn done(answer: Result<(), Refusal>) -> Answer {
     match answer {
         Ok(()) => Answer::Done,
-        Err(refusal) => Answer::Refused(refusal.number()),
+        Err(refusal) => Answer::Refused(u8::from(refusal)),
     }
 }
 
 fn read(answer: Result<Record, Refusal>) -> Answer {
     match answer {
         Ok(order) => Answer::Read(order.number),
-        Err(refusal) => Answer::Refused(refusal.number()),
+        Err(refusal) => Answer::Refused(u8::from(refusal)),
     }
 }
 

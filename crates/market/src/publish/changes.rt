@@ -1,7 +1,6 @@
 // What a change does to what the engine holds.
 ghost use Rattle.std.specs.Prelude.{◌≡◌};
 ghost use Rattle.market.specs.Changes.{changed, record_at, lessened, keeps_place};
-ghost use Rattle.market.specs.Meaning.{model};
 
 use crate::change::Change;
 use crate::market::Market;
@@ -12,11 +11,11 @@ use store::store::{Records, Store};
 impl<S: Store, L: Line> Market<S, L> {
     // Makes a change.
     pub(super) fn apply(&mut self, change: Change)
-        ensures { model S.Records.list S.Records.room L.Line.meaning self.new ≡ changed (model S.Records.list S.Records.room L.Line.meaning self.old) change }
+        ensures { self.new.host ≡ changed self.old.host change }
     {
         match change {
             Change::Event(event) => {
-                let _ = self.phase.step(event.letter());
+                let _ = self.phase.step(u8::from(event));
             }
             Change::Tick(_) | Change::Directory(_) => {}
             Change::State(code, state) => self.books.set_state(code, state),
@@ -32,18 +31,16 @@ impl<S: Store, L: Line> Market<S, L> {
         }
     }
 
+    // A blank order past the end, so that a change can be told of any place.
     pub fn record_at(&self, place: usize) -> Record
-        ensures { result ≡ record_at place (S.Records.list self.now.store) }
+        ensures { result ≡ record_at place self.now.host.orders }
     {
-        match self.store.read(place) {
-            Ok(order) => order,
-            Err(_) => NO_RECORD,
-        }
+        self.store.read(place).unwrap_or(NO_RECORD)
     }
 
     // The order at a place executes a quantity, and is gone where nothing is left of it.
     fn execute_at(&mut self, place: usize, quantity: u32)
-        ensures { model S.Records.list S.Records.room L.Line.meaning self.new ≡ changed (model S.Records.list S.Records.room L.Line.meaning self.old) (Change.Execute place quantity 0) }
+        ensures { self.new.host ≡ changed self.old.host (Change.Execute place quantity 0) }
     {
         let order = self.record_at(place);
         if order.left <= quantity {
@@ -55,7 +52,7 @@ impl<S: Store, L: Line> Market<S, L> {
 
     // An order takes the place of the one at a place, or goes to the end.
     fn amend_at(&mut self, place: usize, order: Record)
-        ensures { model S.Records.list S.Records.room L.Line.meaning self.new ≡ changed (model S.Records.list S.Records.room L.Line.meaning self.old) (Change.Amend place order) }
+        ensures { self.new.host ≡ changed self.old.host (Change.Amend place order) }
     {
         if keeps_place(self.record_at(place), order) {
             let _ = self.store.rewrite(place, order);

@@ -28,7 +28,7 @@ const NO_ORDER: u64 = 0;
 impl<S: Store, L: Line> Market<S, L> {
     // The message that tells a change which is still to be made.
     pub(super) fn message_of(&self, nanos: u32, change: Change) -> FeedMessage
-        ensures { result ≡ told (S.Records.list self.now.store) nanos change }
+        ensures { result ≡ told self.now.host.orders nanos change }
     {
         match change {
             Change::Event(event) => event_message(nanos, event),
@@ -91,6 +91,7 @@ fn row_message(nanos: u32, row: TickRow) -> FeedMessage
 fn book_message(nanos: u32, book: Book) -> FeedMessage
     ensures { result ≡ told [] nanos (Change.Directory book) }
 {
+    // An array goes in through a local: straight from a field the check does not take it.
     let isin = book.isin;
     FeedMessage::Directory(Directory {
         nanos,
@@ -136,7 +137,7 @@ fn order_message(nanos: u32, order: Record) -> FeedMessage
     FeedMessage::Added(OrderAdded {
         nanos,
         number: order.number,
-        mark: Mark::of(order.side),
+        mark: Mark::from(order.side),
         quantity: order.left,
         code: order.book,
         group: GROUP,

@@ -5,7 +5,7 @@ use crate::tables::{Book, Books, GROUP, NO_BOOK, NO_ROW, TickRow, TickRows};
 use fields::letters::BookState;
 use ouch::inbound::{Enter, Replace};
 
-// The letter where there is no reason.
+// The letter where there is no reason, so that a table holds letters alone.
 const NONE: u8 = b'-';
 
 const TRADES: u32 = 1;
@@ -65,16 +65,14 @@ fn entered(code: u32, firm: u32, side: u8, margin: u8, terms: Terms, full: bool)
         classification: b'1',
         margin,
     };
-    match enter_reason(
+    let reason = enter_reason(
         Phase::Session,
         &loaded_rows(),
         &loaded_books(),
         full,
         &order,
-    ) {
-        Some(reason) => reason.letter(),
-        None => NONE,
-    }
+    );
+    reason.map_or(NONE, u8::from)
 }
 
 // The order has executed 35.
@@ -88,10 +86,7 @@ fn replaced(phase: Phase, terms: Terms) -> u8 {
         display: terms.2,
         minimum: terms.4,
     };
-    match replace_reason(phase, &loaded_rows(), BOOK, 35, order) {
-        Some(reason) => reason.letter(),
-        None => NONE,
-    }
+    replace_reason(phase, &loaded_rows(), BOOK, 35, order).map_or(NONE, u8::from)
 }
 
 #[test]

@@ -1,11 +1,10 @@
 use Rattle.std.proofs.Common.{arith}
-use Rattle.matching.proofs.Meetings.{met_next, met_end}
+use Rattle.std.proofs.lemmas.List.{length_push}
+use Rattle.matching.proofs.Meetings.{met_push}
 use Rattle.matching.proofs.meeting.meeting_quantity.Goals as goal
 
-pub loop-k-preserved : goal.loop-k-preserved
-loop-k-preserved g c =
-    let next = met_next c.args.newcomer (g.S.Records.list c.args.store.now) c.loop-k.k _ c.step-step.ensures.order in
-    (omega (arith, next, c.met_in.ensures, c.loop-k.invariant.0), c.step-step.ensures.next, omega (arith, c.loop-k.invariant.2))
-
-pub returns : goal.returns
-returns g c = omega (arith, met_end c.args.newcomer (g.S.Records.list c.args.store.now) c.loop-k.k (omega arith), c.loop-k.invariant.0)
+pub loop-order-preserved : goal.loop-order-preserved
+loop-order-preserved g c =
+    let more = met_push c.args.newcomer c.loop-order.yielded c.in-Some.order in
+    let longer = length_push c.loop-order.yielded c.in-Some.order in
+    record { met = omega arith; small = omega arith }

@@ -1,38 +1,30 @@
-use Rattle.std.proofs.Common.{sym, ap, ◌∙◌, arith}
+use Rattle.std.proofs.Common.{◌+◌, ◌^◌, rules, sym, ap, ◌∙◌}
 use Rattle.market.specs.Host.{Host, live}
-use Rattle.market.specs.Meaning.{model}
 use Rattle.matching.specs.Matching.{matched}
 use Rattle.matching.proofs.Walks.{walk-filled, walk_unmet, walk_turn, walk_falls, walk_numbers}
 use Rattle.matching.proofs.walk.walk.Goals as goal
 
 pub returns-in_default : goal.returns-in_default
-returns-in_default g c =
-    let h : Host = model g.S.Records.list g.S.Records.room g.L.Line.meaning c.loop-newcomer.market in
-    sym (walk_unmet c.args.time (live h) h c.loop-newcomer.newcomer (sym c.best_met.ensures ∙ c.in_default.is)) ∙ c.loop-newcomer.invariant.0
+returns-in_default g c = search (rules, walk_unmet)
 
 pub loop-newcomer-smaller : goal.loop-newcomer-smaller
 loop-newcomer-smaller g c =
-    let h : Host = model g.S.Records.list g.S.Records.room g.L.Line.meaning c.loop-newcomer.market in
-    let met = sym c.best_met.ensures ∙ c.in-Some.is in
-    let falls = walk_falls c.args.time h c.loop-newcomer.newcomer c.in-Some.place c.loop-newcomer-test.true met in
-    rw (ap live c.execute-newcomer.ensures.host, c.execute-newcomer.ensures.left) falls
+    rw (ap live c.execute-newcomer.ensures.host, c.execute-newcomer.ensures.left)
+    (walk_falls c.args.time c.loop-newcomer.market.host c.loop-newcomer.newcomer c.in-Some.place c.loop-newcomer-test.true (sym c.best_met.ensures ∙ c.in-Some.is))
 
 pub loop-newcomer-preserved : goal.loop-newcomer-preserved
 loop-newcomer-preserved g c =
-    let h : Host = model g.S.Records.list g.S.Records.room g.L.Line.meaning c.loop-newcomer.market in
     let met = sym c.best_met.ensures ∙ c.in-Some.is in
-    let turn = walk_turn c.args.time h c.loop-newcomer.newcomer c.in-Some.place c.loop-newcomer-test.true met in (
+    let h = c.loop-newcomer.market.host in (
       ap (λ (i : Host). matched i c.args.time c.execute-newcomer.result) c.execute-newcomer.ensures.host
           ∙ ap (matched _ c.args.time) c.execute-newcomer.ensures.left
-          ∙ turn
+          ∙ walk_turn c.args.time h c.loop-newcomer.newcomer c.in-Some.place c.loop-newcomer-test.true met
           ∙ c.loop-newcomer.invariant.0,
       λ some.
           rw (ap (λ (i : Host). i.next_match) c.execute-newcomer.ensures.host, ap live c.execute-newcomer.ensures.host)
-          (walk_numbers c.args.time h c.loop-newcomer.newcomer c.in-Some.place 9223372036854779904 met (c.loop-newcomer.invariant.1 c.loop-newcomer-test.true)
+          (walk_numbers c.args.time h c.loop-newcomer.newcomer c.in-Some.place (2 ^ 63 + 4096) met (c.loop-newcomer.invariant.1 c.loop-newcomer-test.true)
           (rw c.execute-newcomer.ensures.left at some)),
     )
 
 pub returns : goal.returns
-returns g c =
-    let h : Host = model g.S.Records.list g.S.Records.room g.L.Line.meaning c.loop-newcomer.market in
-    sym (walk-filled c.args.time (live h) h c.loop-newcomer.newcomer (omega arith)) ∙ c.loop-newcomer.invariant.0
+returns g c = search (rules, walk-filled)

@@ -1,5 +1,4 @@
-use Rattle.std.proofs.Common.{◌≡◌, ◌+◌, ◌<◌, ◌≤◌, min, length}
-use Rattle.market.specs.Meaning.{model}
+use Rattle.std.proofs.Common.{◌≡◌, ◌+◌, ◌^◌, ◌<◌, ◌≤◌, min, length}
 use Rattle.matching.specs.Matching.{matched}
 use Rattle.matching.proofs.walk.walk.Given as goal
 
@@ -7,10 +6,9 @@ use Rattle.matching.proofs.walk.walk.Given as goal
 -- order
 abbrev pub invariant-loop-newcomer : goal.invariant-loop-newcomer
 invariant-loop-newcomer g l =
-    (matched (model g.S.Records.list g.S.Records.room g.L.Line.meaning l.market) l.time l.newcomer
-    ≡ matched (model g.S.Records.list g.S.Records.room g.L.Line.meaning l.initial.market) l.time l.initial.newcomer)
-    × (0 < l.newcomer.left → l.market.next_match + length (g.S.Records.list l.market.store) ≤ 9223372036854779904)
+    (matched l.market.host l.time l.newcomer ≡ matched l.initial.market.host l.time l.initial.newcomer)
+    × (0 < l.newcomer.left → l.market.host.next_match + length l.market.host.orders ≤ 2 ^ 63 + 4096)
 
 -- the orders that are live, and the newcomer
 abbrev pub decreases-loop-newcomer : goal.decreases-loop-newcomer
-decreases-loop-newcomer g l = length (g.S.Records.list l.market.store) + min l.newcomer.left 1
+decreases-loop-newcomer g l = length l.market.host.orders + min l.newcomer.left 1

@@ -1,10 +1,12 @@
 use Rattle.std.proofs.Common.{◌≡◌, ℕ, ◌<◌, false, ltb, List, ◌∷◌, length, None, ap, ◌∙◌, arith}
-use Rattle.std.proofs.lemmas.Bool.{le-ltb, lt-ltb, ne_eqb, cond-false, cond-true}
+use Rattle.std.specs.Bool.{then_some}
+use Rattle.std.specs.Option.{option_map, option_or, unwrap_or}
+use Rattle.std.proofs.lemmas.Bool.{le-ltb, lt-ltb, ne_eqb, cond-false}
 use Rattle.itch.specs.Feed.{feed_bytes, feed_read}
 use Rattle.itch.proofs.Readings.{feed_returns}
-use Rattle.ouch.specs.Reply.{addressed}
+use Rattle.ouch.specs.Reply.{addressed, addressed_read}
 use Rattle.ouch.proofs.Told.{replies_return}
-use Rattle.readable.specs.Packets.{accounts, feed_or, reply_or}
+use Rattle.readable.specs.Packets.{accounts, reply_of, feed, reply, unknown}
 use Rattle.readable.proofs.packet.packets_stand.Goals as goal
 
 three : (a b c : ℕ) (t : List ℕ) → ltb (length (a ∷ b ∷ c ∷ t)) 3 ≡ false
@@ -31,12 +33,14 @@ pub returns : goal.returns
 returns c = record {
   message = λ a b m fits.
       cond-false _ _ _ (three a b 83 (feed_bytes m))
-      ∙ ap (λ o. feed_or o (a ∷ b ∷ 83 ∷ feed_bytes m)) (feed_returns m fits);
+      ∙ ap (λ o. unwrap_or (option_or (option_map feed o) (reply_of (addressed_read (feed_bytes m)))) (unknown (a ∷ b ∷ 83 ∷ feed_bytes m)))
+      (feed_returns m fits);
   told = λ a b account m h fits.
-      let p = a ∷ b ∷ 83 ∷ addressed account m in
+      let p = unknown (a ∷ b ∷ 83 ∷ addressed account m) in
       cond-false _ _ _ (three a b 83 (addressed account m))
-      ∙ ap (λ o. feed_or o p) (no_feed account _ h)
-      ∙ ap (λ o. reply_or o p) (replies_return account m fits)
-      ∙ cond-true _ _ _ (lt-ltb account accounts h);
+      ∙ ap (λ o. unwrap_or (option_or (option_map feed o) (reply_of (addressed_read (addressed account m)))) p)
+      (no_feed account _ h)
+      ∙ ap (λ o. unwrap_or (reply_of o) p) (replies_return account m fits)
+      ∙ ap (λ t. unwrap_or (then_some t (reply account m)) p) (lt-ltb account accounts h);
   text = λ a b t. cond-false _ _ _ (three a b 43 t);
 }

@@ -3,14 +3,14 @@ use Rattle.dayfile.proofs.command.Tag.value.Goals as goal
 
 pub returns-in-Row : goal.returns-in-Row
 returns-in-Row c =
-    let p : to_z w32 (of_z w32 c.i32_at.result) ≡ c.i32_at.result = search rules in
+    let p : to_z w32 (of_z w32 c.at-in-Row-2.result) ≡ c.at-in-Row-2.result = search rules in
     rw c.in-Row.is (cc)
 
 pub returns-in-Book : goal.returns-in-Book
 returns-in-Book c =
-    let p : to_z w32 (of_z w32 c.i32_at-in-Book.result) ≡ c.i32_at-in-Book.result = search rules in
-    let q : to_z w32 (of_z w32 c.i32_at-in-Book-2.result) ≡ c.i32_at-in-Book-2.result = search rules in
-    let r : to_z w32 (of_z w32 c.i32_at-in-Book-3.result) ≡ c.i32_at-in-Book-3.result = search rules in
+    let p : to_z w32 (of_z w32 c.at-in-Book-5.result) ≡ c.at-in-Book-5.result = search rules in
+    let q : to_z w32 (of_z w32 c.at-in-Book-6.result) ≡ c.at-in-Book-6.result = search rules in
+    let r : to_z w32 (of_z w32 c.at-in-Book-8.result) ≡ c.at-in-Book-8.result = search rules in
     rw c.in-Book.is (cc)
 
 pub returns-in-Account : goal.returns-in-Account
@@ -27,7 +27,7 @@ returns-in-State c = rw c.in-State.is (cc)
 
 pub returns-in-Reference : goal.returns-in-Reference
 returns-in-Reference c =
-    let p : to_z w32 (of_z w32 c.i32_at-in-Reference.result) ≡ c.i32_at-in-Reference.result = search rules in
+    let p : to_z w32 (of_z w32 c.at-in-Reference-3.result) ≡ c.at-in-Reference-3.result = search rules in
     rw c.in-Reference.is (cc)
 
 pub returns-in-Drop : goal.returns-in-Drop

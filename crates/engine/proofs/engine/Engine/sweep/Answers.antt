@@ -1,32 +1,27 @@
-use Rattle.std.proofs.Common.{length, sym, ap, ◌∙◌, arith}
-use Rattle.std.proofs.lemmas.List.Edits.{length-remove}
-use Rattle.store.specs.declared.record.Record.{Record}
+use Rattle.std.proofs.Common.{◌≡◌, Some, None, length, sym, ap, ◌∙◌, arith}
+use Rattle.store.specs.Records.{first_of}
+use Rattle.store.proofs.Withdrawals.{taken}
 use Rattle.market.specs.Host.{Host}
-use Rattle.engine.specs.Meaning.{model}
-use Rattle.engine.proofs.Sweeps.{swept_on, swept_own, swept_other, swept_all}
+use Rattle.engine.specs.Sweep.{swept}
+use Rattle.engine.proofs.Sweeps.{canceled, none_left}
 use Rattle.engine.proofs.engine.Engine.sweep.Goals as goal
 
-pub loop-place-smaller-then-record_at-account : goal.loop-place-smaller-then-record_at-account
-loop-place-smaller-then-record_at-account g c =
-    let n = length-remove (g.S.Records.list c.loop-place.self.market.store) c.loop-place.place (omega arith) in
-    omega (arith, ap (λ (h : Host). length h.orders) c.withdraw.ensures)
-
-pub loop-place-preserved-then-record_at-account : goal.loop-place-preserved-then-record_at-account
-loop-place-preserved-then-record_at-account g c =
-    let h : Host = model g.S.Records.list g.S.Records.room g.L.Line.meaning c.loop-place.self in
-    let own = sym (ap (λ (x : Record). x.account) c.record_at.ensures) ∙ c.if-record_at-account.true in
-    ap (swept_on c.args.time c.args.account c.loop-place.place) c.withdraw.ensures
-    ∙ swept_own c.args.time c.args.account h c.loop-place.place (omega arith) own
-    ∙ c.loop-place.invariant
+pub loop-place-smaller : goal.loop-place-smaller
+loop-place-smaller g c =
+    let h : Host = c.loop-place.self.market.host in
+    let first : first_of c.args.account h.orders ≡ Some (c.in-Some.place, c.in-Some.field-0-1) = rw (← c.self.view_is) (sym c.first_of.ensures ∙ c.in-Some.is) in
+    omega (arith, (taken c.args.account h.orders _ _ first).fewer, ap (λ (x : Host). length x.orders) c.withdraw.ensures)
 
 pub loop-place-preserved : goal.loop-place-preserved
 loop-place-preserved g c =
-    let h : Host = model g.S.Records.list g.S.Records.room g.L.Line.meaning c.loop-place.self in
-    swept_other c.args.time c.args.account h c.loop-place.place (omega arith)
-    (λ own. c.if-record_at-account.false (ap (λ (x : Record). x.account) c.record_at.ensures ∙ own))
+    let h : Host = c.loop-place.self.market.host in
+    let first : first_of c.args.account h.orders ≡ Some (c.in-Some.place, c.in-Some.field-0-1) = rw (← c.self.view_is) (sym c.first_of.ensures ∙ c.in-Some.is) in
+    ap (λ (x : Host). swept x c.args.time c.args.account) c.withdraw.ensures
+    ∙ canceled c.args.time c.args.account h _ _ first
     ∙ c.loop-place.invariant
 
 pub returns : goal.returns
 returns g c =
-    let h : Host = model g.S.Records.list g.S.Records.room g.L.Line.meaning c.loop-place.self in
-    sym (swept_all c.args.time c.args.account h c.loop-place.place (omega arith)) ∙ c.loop-place.invariant
+    let h : Host = c.loop-place.self.market.host in
+    let none : first_of c.args.account h.orders ≡ None = rw (← c.self.view_is) (sym c.first_of.ensures ∙ c.in_default.is) in
+    sym (none_left c.args.time c.args.account h none) ∙ c.loop-place.invariant

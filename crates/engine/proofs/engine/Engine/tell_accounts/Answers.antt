@@ -14,4 +14,4 @@ unfolding replied_each
 loop-account-preserved g c =
     rw add-one
     (c.reply.ensures
-    ∙ ap (λ (h : Host). replied h c.loop-account.account (SystemEvent (record { time = c.args.time; event = c.args.event }))) c.loop-account.invariant)
+    ∙ ap (λ (h : Host). replied h c.loop-account.account (SystemEvent (record { time = c.into.result; event = c.args.event }))) c.loop-account.invariant)

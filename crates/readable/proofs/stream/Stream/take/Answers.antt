@@ -8,4 +8,4 @@ returns c =
     goes_on c.args.self.now c.args.bytes.now _ _ c.in_ok-shown.shown _ _
     (all ∙ c.in_ok-extend_from_slice.ensures.items)
     c.in_ok-shown.ensures
-    (c.in_ok-rest.ensures.tail ∙ ap (drop _) (sym all))
+    (c.drop-drain.ensures.items ∙ c.drain.ensures.kept ∙ ap (drop _) (sym all))

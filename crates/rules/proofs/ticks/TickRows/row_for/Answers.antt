@@ -1,15 +1,12 @@
-use Rattle.std.proofs.Common.{Some, sym, ap, ◌∙◌, le_refl}
-use Rattle.std.proofs.lemmas.List.{at_drop_all}
-use Rattle.rules.specs.Ticks.{tick_row}
-use Rattle.rules.proofs.Highest.{row_here, row_before}
+use Rattle.std.proofs.Common.{◌∙◌, None, rules, tests}
+use Rattle.std.proofs.lemmas.Iterator.Adapters.{YieldsList-from_rev_slice}
+use Rattle.std.proofs.lemmas.Iterator.Consumers.{YieldsList-from_filter, fold_from_yields_List}
+use Rattle.rules.proofs.Highest.{reaches, keep, from_last}
 use Rattle.rules.proofs.ticks.TickRows.row_for.Goals as goal
 
-pub loop-k-init : goal.loop-k-init
-loop-k-init c = sym (at_drop_all (tick_row _ _) c.as_slice-rows.result.now _ (le_refl _))
-
-pub loop-k-preserved-then-reaches : goal.loop-k-preserved-then-reaches
-loop-k-preserved-then-reaches c =
-    ap Some c.or_higher.ensures ∙ sym (row_here _ _ _ _ _ _ c.loop-k-test.true c.loop-k.auto.k c.if-reaches.ensures c.loop-k.invariant)
-
-pub loop-k-preserved : goal.loop-k-preserved
-loop-k-preserved c = sym (row_before _ _ _ _ _ _ c.loop-k-test.true c.loop-k.auto.k c.if-reaches.ensures c.loop-k.invariant)
+pub returns : goal.returns
+returns c =
+    fold_from_yields_List _ keep None _ c.fold.ensures.ran
+    (YieldsList-from_filter _ (reaches c.args.table c.args.rate) (YieldsList-from_rev_slice c.args.self.now (search rules)) c.filter.ensures.closure (λ x r q k. search (rules, tests)))
+    (λ a x b q k. search (rules, tests))
+    ∙ from_last c.args.table c.args.rate c.args.self.now

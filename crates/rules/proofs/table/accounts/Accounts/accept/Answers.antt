@@ -1,12 +1,7 @@
-use Rattle.std.proofs.Common.{◌<◌, length, rules}
-use Rattle.std.proofs.lemmas.List.{set_past, length-take}
-use Rattle.rules.proofs.Tokens.{token_used_lem}
+use Rattle.std.proofs.Common.{get_or-take, rules}
+use Rattle.std.proofs.Math.Seq.{take-set-lt}
+use Rattle.std.proofs.lemmas.List.{get_or_default}
 use Rattle.rules.proofs.table.accounts.Accounts.accept.Goals as goal
 
 pub returns-then-k-self : goal.returns-then-k-self
-returns-then-k-self c =
-    let within : c.args.k < length c.args.self.now.all = search rules in
-    token_used_lem _ _ _ _ _ _ c.if-k-self.true within c.accept_token.ensures
-
-pub returns-else-k-self : goal.returns-else-k-self
-returns-else-k-self c = search (rules, set_past, length-take)
+returns-then-k-self c = search (rules, take-set-lt, get_or-take, get_or_default)

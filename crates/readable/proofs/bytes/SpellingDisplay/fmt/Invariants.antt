@@ -1,0 +1,9 @@
+use Rattle.std.proofs.Common.{take}
+use Rattle.std.specs.Fmt.{IsPlainFormatter, HasWritten}
+use Rattle.readable.specs.Spelling.{spelling}
+use Rattle.readable.proofs.bytes.SpellingDisplay.fmt.Given as goal
+
+abbrev pub invariant-loop-byte : goal.invariant-loop-byte
+invariant-loop-byte g l =
+    IsPlainFormatter l.initial.f →
+    HasWritten g.W.Write.write_str_gives l.initial.f (spelling (take l.byte-index l.self.0.now)) l.f
