@@ -16,6 +16,7 @@ impl fmt::Display for At<FeedMessage> {
 
     fn fmt<W: fmt::Write>(&self, f: &mut fmt::Formatter<W>) -> fmt::Result {
         let second = self.second;
+        // Each arm is another type's line.
         match self.message {
             FeedMessage::Seconds(message) => write!(f, "{}", At { second, message }),
             FeedMessage::Event(message) => write!(f, "{}", At { second, message }),

@@ -240,6 +240,7 @@ impl fmt::Display for Told<Reply> {
     ghost output = { λ t. Some (reply_line t.0) };
 
     fn fmt<W: fmt::Write>(&self, f: &mut fmt::Formatter<W>) -> fmt::Result {
+        // Each arm is another type's line.
         match self.0 {
             Reply::SystemEvent(m) => write!(f, "{}", Told(m)),
             Reply::Accepted(m) => write!(f, "{}", Told(m)),
