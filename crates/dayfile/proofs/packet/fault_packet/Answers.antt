@@ -5,5 +5,5 @@ use Rattle.dayfile.proofs.packet.fault_packet.Goals as goal
 pub returns : goal.returns
 unfolding fault_packet
 returns c =
-    c.plus_packet.ensures ∙ ap plus_packet (c.bytes.ensures ∙ c.fault_text-text.ensures.bytes)
+    c.plus_packet.ensures ∙ ap plus_packet (c.bytes.ensures.value ∙ c.fault_text-text.ensures.bytes)
     ∙ (λ i. plus_packet (fault_text (c.layer.ensures i) (c.from.ensures i) (c.place.ensures i)))
