@@ -1,10 +1,10 @@
 -- How many bytes a message has, and that each value that is read has a place in its field.
-use Rattle.std.proofs.Common.{◌≡◌, ℕ, ◌+◌, ◌^◌, ◌<◌, eqb, List, [], ◌∷◌, length, get_or, take, drop, Some, subst, arith, length-drop, length-take}
+use Rattle.std.proofs.Common.{◌≡◌, ℕ, ◌+◌, ◌^◌, ◌<◌, eqb, List, [], ◌∷◌, length, get_or, take, drop, Some, sym, ap, ◌∙◌, subst, arith, length-drop, length-take}
 use mir.Facts.{sfits_to_z}
 use Rattle.std.specs.Int.Digits.{number_from_digits, AllBelowBase}
 use Rattle.std.proofs.lemmas.Int.Digits.{number_lt}
 use Rattle.std.proofs.ByRecursion.{All-take, All-drop}
-use Rattle.std.proofs.lemmas.Bool.{eqb-true}
+use Rattle.std.proofs.lemmas.Bool.{eqb-true, eq-eqb}
 use Rattle.fields.proofs.Rows.{some_cond}
 use Rattle.fields.specs.Layout.{Kind, byte, uint, int, text, size, get, Fit, Row, sizes, read_at, Fits, apply, Format, Fitting, encode, decode, Sound}
 
@@ -39,3 +39,10 @@ fits_decoded f back b m u e =
     let q = some_cond (eqb (get_or b 0 0) f.letter) (apply f.fields f.made (read_at f.fields 1 b)) m p.1 in
     let l : length b ≡ 1 + sizes f.fields = eqb-true (length b) (1 + sizes f.fields) p.0 in
     rw (back (read_at f.fields 1 b) m q.1) (fits_read f.fields b 1 (omega arith) u)
+
+-- the message of the values that are read, where length and letter are right
+pub decoded : {M : Type 0} (f : Format M) (b : List ℕ) (r : Row f.fields) (m : M) → length b ≡ 1 + sizes f.fields
+    → get_or b 0 0 ≡ f.letter → r ≡ read_at f.fields 1 b → apply f.fields f.made r ≡ Some m → Some m ≡ decode f b
+decoded f b r m l a e h =
+    rw (eq-eqb (length b) (1 + sizes f.fields) l, eq-eqb (get_or b 0 0) f.letter a)
+    (sym h ∙ ap (apply f.fields f.made) e)
