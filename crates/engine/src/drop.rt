@@ -10,7 +10,7 @@ use market::time::Time;
 use ouch::letters::CancelReason;
 use rules::fault::Fault;
 use store::store::Store;
-use store::withdraw::first_of;
+use store::withdraw::next_of;
 
 impl<S: Store, L: Line> Engine<S, L> {
     pub(crate) fn check_drop(&self, time: u64, account: u8) -> Result<Time, Fault>
@@ -37,8 +37,10 @@ impl<S: Store, L: Line> Engine<S, L> {
     fn sweep(&mut self, time: Time, account: u8)
         ensures { self.new.market.host ≡ swept self.old.market.host time account }
     {
-        while let Some((place, _)) = first_of(&self.market.store, account) {
+        let mut start = 0;
+        while let Some((place, _)) = next_of(&self.market.store, account, start) {
             self.market.withdraw(time, place, CancelReason::LoggedOff);
+            start = place;
         }
     }
 }

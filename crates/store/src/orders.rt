@@ -10,19 +10,21 @@ use std::marker::Model;
 #[derive(Drop)]
 pub struct Orders<'a, R: Records> {
     records: &'a R,
+    // asked of the records once: a store may have to count them
+    len: usize,
     place: usize,
     cursor: usize,
 }
 
 impl<'a, R: Records> Model for Orders<'a, R> {
-    ghost use Rattle.std.specs.Prelude.{◌≡◌, ℕ, List, drop};
+    ghost use Rattle.std.specs.Prelude.{◌≡◌, ℕ, List, drop, length};
     ghost use Rattle.store.specs.declared.record.Record.{Record};
 
     ghost Value = { List Record };
 
     ghost view = { λ o. drop o.place (R.Records.list o.records.now) };
 
-    ghost invariant = { λ o. o.cursor ≡ R.Records.spot o.records.now o.place };
+    ghost invariant = { λ o. (o.len ≡ length (R.Records.list o.records.now)) × (o.cursor ≡ R.Records.spot o.records.now o.place) };
 }
 
 impl<'a, R: Records> Orders<'a, R> {
@@ -31,6 +33,7 @@ impl<'a, R: Records> Orders<'a, R> {
     {
         Orders {
             records,
+            len: records.len(),
             place: 0,
             cursor: records.start(),
         }
@@ -45,7 +48,7 @@ impl<'a, R: Records> Iterator for Orders<'a, R> {
     ghost remaining = { item_count (λ left. left) };
 
     fn next(&mut self) -> Option<Record> {
-        if self.place >= self.records.len() {
+        if self.place >= self.len {
             return None;
         }
         let Step { order, next } = self.records.step(self.place, self.cursor);
