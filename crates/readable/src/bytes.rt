@@ -1,5 +1,6 @@
 // Bytes one after another, as text or by their hexadecimal digits.
-ghost use Rattle.std.specs.Prelude.{◌≡◌, Some};
+ghost use Rattle.std.specs.Prelude.{◌≡◌, ◌∷◌, [], Some};
+ghost use Rattle.readable.specs.Hex.{hex_digit};
 ghost use Rattle.readable.specs.Spelling.{printable, spelt, spelling, hex_bytes, unpadded, field_text, TextTells};
 
 use std::fmt;
@@ -11,6 +12,16 @@ fn is_printable(byte: u8) -> bool
     matches!(byte, b' '..=b'~') && byte != b'\\'
 }
 
+// The last hexadecimal digit of a number, as a text of its own: in long dumps `{:02X}` takes nearly twice as long.
+fn digit(n: u8) -> &'static str
+    ensures { result.now ≡ hex_digit n ∷ [] }
+{
+    const DIGITS: [&str; 16] = [
+        "0", "1", "2", "3", "4", "5", "6", "7", "8", "9", "A", "B", "C", "D", "E", "F",
+    ];
+    DIGITS[usize::from(n % 16)]
+}
+
 // A byte of a text, by its two digits where it does not stand for itself.
 #[derive(Clone, Copy)]
 struct Spelt(u8);
@@ -18,13 +29,12 @@ struct Spelt(u8);
 impl fmt::Display for Spelt {
     ghost output = { λ b. Some (spelt b.0) };
 
-    #[tactic(auto, using(crate::proofs::Spells::two_digits))]
     fn fmt<W: fmt::Write>(&self, f: &mut fmt::Formatter<W>) -> fmt::Result {
         let byte = self.0;
         if is_printable(byte) {
             write!(f, "{}", byte as char)
         } else {
-            write!(f, "\\x{byte:02X}")
+            write!(f, "\\x{}{}", digit(byte / 16), digit(byte))
         }
     }
 }
@@ -53,7 +63,7 @@ impl fmt::Display for Hex<'_> {
 
     fn fmt<W: fmt::Write>(&self, f: &mut fmt::Formatter<W>) -> fmt::Result {
         for &byte in self.1 {
-            write!(f, "{}{byte:02X}", self.0)?;
+            write!(f, "{}{}{}", self.0, digit(byte / 16), digit(byte))?;
         }
         Ok(())
     }

@@ -86,6 +86,10 @@ impl Stream {
         self.pending.extend_from_slice(bytes)?;
         let shown = show_whole(self.pending.as_slice(), &mut self.second, text)?;
         self.pending.drain(..shown);
+        if shown > 0 {
+            // What is left is shorter than a packet, however large the piece was.
+            self.pending.shrink_to_fit();
+        }
         Ok(())
     }
 
