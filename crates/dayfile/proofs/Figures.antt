@@ -54,6 +54,11 @@ pub decimal_short : (n : ℕ) → length (decimal n) ≤ 64
 unfolding digits
 decimal_short n = short 64 n
 
--- three texts with a byte between
+-- three texts with a byte between, put one after the other
+pub spaced : {w₀ w₁ w₂ w₃ w₄ w₅ : List ℕ} (a b c : List ℕ) (x : ℕ) → w₀ ≡ [] → w₁ ≡ w₀ ++ a → w₂ ≡ w₁ ++ (x ∷ [])
+    → w₃ ≡ w₂ ++ b → w₄ ≡ w₃ ++ (x ∷ []) → w₅ ≡ w₄ ++ c → w₅ ≡ a ++ (x ∷ (b ++ (x ∷ c)))
+spaced a b c x e₀ e₁ e₂ e₃ e₄ e₅ =
+    let e : (((([] ++ a) ++ (x ∷ [])) ++ b) ++ (x ∷ [])) ++ c ≡ a ++ (x ∷ (b ++ (x ∷ c))) = simp append_assoc in cc
+
 pub length_spaced : (a b c : List ℕ) (x : ℕ) → length (a ++ (x ∷ (b ++ (x ∷ c)))) ≡ length a + length b + length c + 2
 length_spaced a b c x = simp length-append (omega arith)

@@ -1,5 +1,5 @@
 -- A stream cut into packets, one more at a time.
-use Rattle.std.proofs.Common.{◌≡◌, ℕ, ◌+◌, ◌-◌, ◌≤◌, List, [], ◌∷◌, ◌++◌, length, take, drop, None, vec_items, Option, sym, refl, ap, ◌∙◌, subst, arith}
+use Rattle.std.proofs.Common.{◌≡◌, ℕ, ◌+◌, ◌-◌, ◌≤◌, Bool, true, false, cond, ltb, List, [], ◌∷◌, ◌++◌, length, take, drop, Some, None, vec_items, Option, sym, refl, ap, ◌∙◌, subst, arith}
 use Rattle.std.specs.Int.Digits.{number_from_digits}
 use Rattle.std.specs.List.{flat_map, IsSplitAt}
 use Rattle.std.proofs.ByRecursion.{All-append}
@@ -41,6 +41,14 @@ front_from r p t s =
       some = omega (arith, wanted_long r (long r s.0));
       joins = (λ i. same i ++ s.2 i) ∙ take-append-drop (wanted r) r;
     }
+
+none_from : (t : Bool) (x : List ℕ) → None ≡ cond t None (Some x) → t ≡ true
+none_from true x e = refl
+none_from false x e = cc
+
+-- where no packet has come whole, the rest is short
+pub short_from : (r : List ℕ) → None ≡ cond (ltb (length r) (wanted r)) None (Some (take (wanted r) r)) → Short r
+short_from r e = let h = none_from (ltb (length r) (wanted r)) (take (wanted r) r) e in grind (arith, nat_tests)
 
 -- the rest is cut further
 cut_then : {b : List ℕ} {ps : List (List ℕ)} {r : List ℕ} {qs : List (List ℕ)} {t : List ℕ} → Cut b ps r → Cut r qs t

@@ -1,5 +1,5 @@
 -- The spaces at the end of a text, one by one.
-use Rattle.std.proofs.Common.{◌≡◌, ℕ, suc, ◌+◌, ◌-◌, ◌<◌, true, false, ◌&&◌, eqb, ◌≢◌, List, [], ◌∷◌, ◌++◌, length, get_or, take, replicate, sym, refl, ap, ◌∙◌, arith}
+use Rattle.std.proofs.Common.{◌≡◌, ℕ, suc, ◌+◌, ◌-◌, ◌<◌, ◌≤◌, true, false, ◌&&◌, eqb, ◌≢◌, List, [], ◌∷◌, ◌++◌, length, get_or, take, replicate, sym, refl, ap, ◌∙◌, arith}
 use native.Mathlib.Nat.{sub-zero}
 use Rattle.std.specs.Int.Digits.{AllBelowBase}
 use Rattle.std.proofs.lemmas.List.{take_more, take_all}
@@ -41,6 +41,9 @@ front_solid xs some ne =
     last xs some
     ∙ sym (unpadded_end (take (length xs - 1) xs) (get_or xs (length xs - 1) 0) ne)
     ∙ ap unpadded (sym (last xs some))
+
+pub front_none : (xs : List ℕ) (n : ℕ) → n ≤ 0 → take (n - 0) xs ≡ unpadded (take n xs)
+front_none xs n none = let e : n ≡ 0 = omega arith in simp e
 
 -- the spaces are all that is left out
 spaces_are : (xs : List ℕ) → spaces xs ≡ true → xs ≡ replicate (length xs) 32
