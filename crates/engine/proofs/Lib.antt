@@ -1,3 +1,4 @@
 pub mod Copies
 pub mod Decided
+pub mod Parts
 pub mod Sweeps

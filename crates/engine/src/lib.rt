@@ -1,17 +1,18 @@
 // The engine: its calls, each as an equation with what it does to what the engine holds.
 #![tactic(auto)]
 
-mod begin;
+pub mod begin;
 mod books;
 pub mod calls;
 mod checks;
-mod collect;
-mod drop;
+pub mod collect;
+pub mod count;
+pub mod drop;
 pub mod engine;
-mod event;
-mod loading;
+pub mod event;
+pub mod loading;
 pub mod make;
-mod message;
+pub mod message;
 pub mod output;
-mod reference;
-mod state;
+pub mod reference;
+pub mod state;

@@ -11,6 +11,8 @@ impl<S: Store, L: Line> Engine<S, L> {
     // of each.
     pub fn copy_out(&self, out: &mut [u8]) -> (usize, usize)
         ensures answer { result ≡ (length (L.Line.layout self.now.market.feed self.now.market.host.feed), length (L.Line.layout self.now.market.replies self.now.market.host.replies)) }
+        ensures feed { self.now.market.host.feed ≡ L.Line.meaning self.now.market.feed }
+        ensures replies { self.now.market.host.replies ≡ L.Line.meaning self.now.market.replies }
         ensures after { out.new ≡ over (L.Line.layout self.now.market.feed self.now.market.host.feed ++ L.Line.layout self.now.market.replies self.now.market.host.replies) out.old }
     {
         let fed = self.market.feed.copy_out(out);

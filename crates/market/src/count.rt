@@ -1,10 +1,21 @@
-// What is counted: the live orders, and what an accepted call answers, the messages that it added to each line.
+// What is counted: the live orders, what is loaded, and what an accepted call answers, the messages that it added to each
+// line.
 ghost use Rattle.std.specs.Prelude.{◌≡◌, ◌-◌, ◌≤◌, length};
+ghost use Rattle.market.specs.Bounds.{Bounds, counts};
 ghost use Rattle.market.specs.Host.{live};
 
 use crate::market::Market;
 use line::line::Line;
 use store::store::{Records, Store};
+
+// How many orders are live, and how many tick rows, books and accounts are loaded.
+#[derive(Clone, Copy)]
+pub struct Counts {
+    pub orders: usize,
+    pub rows: usize,
+    pub books: usize,
+    pub accounts: usize,
+}
 
 impl<S: Store, L: Line> Market<S, L> {
     // How many orders are live: as few as a store holds.
@@ -13,6 +24,22 @@ impl<S: Store, L: Line> Market<S, L> {
         ensures few { result ≤ 4096 }
     {
         self.store.len()
+    }
+
+    // How many of each there are. Says too within which bounds a market is, and that its host shows the lines as they
+    // are: a caller sees the host alone.
+    pub fn counts(&self) -> Counts
+        ensures value { result ≡ counts self.now.host }
+        ensures bounds { Bounds self.now.host }
+        ensures feed { self.now.host.feed ≡ L.Line.meaning self.now.feed }
+        ensures replies { self.now.host.replies ≡ L.Line.meaning self.now.replies }
+    {
+        Counts {
+            orders: self.live(),
+            rows: self.rows.len(),
+            books: self.books.len(),
+            accounts: self.accounts.len(),
+        }
     }
 
     // How many messages wait on the feed and for the accounts.
