@@ -1,13 +1,13 @@
 -- One step of a withdrawal: the record at k goes to the other store, or stays, or the list is at its end. And the walk
 -- to an account's next record, over those of others.
-use Rattle.std.proofs.Common.{◌≡◌, ℕ, zero, suc, ◌+◌, ◌-◌, ◌<◌, ◌≤◌, eqb, List, [], ◌∷◌, ◌++◌, length, take, drop, Option, Some, None, sym, refl, ap, ◌∙◌, inl, inr, append_assoc, append-nil, add-one, arith, length-append, length-drop}
+use Rattle.std.proofs.Common.{◌≡◌, ℕ, zero, suc, ◌+◌, ◌-◌, ◌<◌, ◌≤◌, true, false, eqb, List, [], ◌∷◌, ◌++◌, length, take, drop, Option, Some, None, sym, refl, ap, ◌∙◌, inl, inr, append_assoc, append-nil, add-one, arith, length-append, length-drop}
 use Rattle.std.proofs.lemmas.List.Edits.{length-remove}
 use Rattle.std.proofs.lemmas.List.{take_all, drop_all, take_at, drop_at, length-take-le}
 use Rattle.std.proofs.lemmas.Bool.{cases_Bool, lt-ltb, eqb-true, eqb-false, eq-eqb, ne_eqb}
-use Rattle.std.specs.List.{remove, slice_get, find, filter_map, enumerate_from, range_with_len}
+use Rattle.std.specs.List.{remove, slice_get, find, enumerate_from, range_with_len}
 use Rattle.std.specs.Option.{option_map}
 use Rattle.store.proofs.Places.{nth_within, nth_drop, nth_take, head_of_drop, none_of_drop}
-use Rattle.store.specs.Records.{appended, next_of, those, without}
+use Rattle.store.specs.Records.{appended, is_own, next_of, those, without}
 use Rattle.store.specs.declared.record.Record.{Record}
 
 pub those_fewer : (account : ℕ) (xs : List Record) → length (those account xs) ≤ length xs
@@ -97,21 +97,25 @@ module _ (account : ℕ) (xs : List Record) (P : ℕ → Type 0) (pass : (k : �
   pub ended : (i : ℕ) → next_of account i xs ≡ None → P i → (n : ℕ) × (length xs ≤ n) × P n
   ended i f p = ended_from (drop i xs) i refl f p
 
--- Reading the places from i on gives the records from there on, with their places.
-module _ (xs : List Record) where
-  abbrev pub placed : ℕ → Option (ℕ × Record)
-  placed k = option_map (λ x. (k, x)) (slice_get xs k)
+-- The first place from i on whose record is the account's: that record, with its place, is the account's first from there on.
+module _ (account : ℕ) (xs : List Record) where
+  abbrev pub placed : Option ℕ → Option (ℕ × Record)
+  placed None = None
+  placed (Some k) = option_map (λ x. (k, x)) (slice_get xs k)
 
-  placed_from : (ys : List Record) (i n : ℕ) → drop i xs ≡ ys → length ys ≡ n → filter_map placed (range_with_len i n) ≡ enumerate_from i ys
+  placed_from : (ys : List Record) (i n : ℕ) → drop i xs ≡ ys → length ys ≡ n → placed (find (is_own account xs) (range_with_len i n)) ≡ find (λ p. eqb p.1.account account) (enumerate_from i ys)
   placed_from [] i zero e l = refl
   placed_from [] i (suc n) e l = absurd (omega arith)
   placed_from (y ∷ ys) i zero e l = absurd (omega arith)
   placed_from (y ∷ ys) i (suc n) e l =
       let h = head_of_drop xs i y ys e in
-      rw h.0 (ap (λ zs. (i, y) ∷ zs) (placed_from ys (i + 1) n h.1 (omega arith)))
+      elim (cases_Bool (eqb y.account account)) [
+        | inl own ↦ let is : is_own account xs i ≡ true = rw h.0 own in rw (is, own, h.0) refl
+        | inr other ↦ let is : is_own account xs i ≡ false = rw h.0 other in rw (is, other) (placed_from ys (i + 1) n h.1 (omega arith))
+      ]
 
-  pub places_read : (i n : ℕ) → length xs - i ≡ n → filter_map placed (range_with_len i n) ≡ enumerate_from i (drop i xs)
-  places_read i n l = placed_from (drop i xs) i n refl (simp length-drop l)
+  pub next_placed : (i n : ℕ) → length xs - i ≡ n → placed (find (is_own account xs) (range_with_len i n)) ≡ next_of account i xs
+  next_placed i n l = placed_from (drop i xs) i n refl (simp length-drop l)
 
 -- A withdrawal's walk: ws are the records of the other store, and left and all what shall stand in the two at its end.
 module _ (account : ℕ) (xs ws left all : List Record) where
