@@ -1,5 +1,5 @@
 -- What a host keeps within, by the laws of its store, its lines and its tables.
-use Rattle.std.specs.Prelude.{◌≡◌, ℕ, ◌^◌, ◌≤◌, true, length}
+use Rattle.std.specs.Prelude.{◌≡◌, ◌^◌, ◌≤◌, true, length}
 use Rattle.line.specs.Meaning.{Meaning, places_of, all_carried}
 use Rattle.market.specs.Host.{Host, live}
 use Rattle.market.specs.declared.count.Counts.{Counts}
